@@ -1,0 +1,4 @@
+pub mod Context
+pub mod ContextLaws
+pub mod Head
+pub mod HeadLaws

@@ -1,0 +1,127 @@
+// What the front end knows before any candidate is fed: the saved context, the scan for the trigger, and the count of
+// non-ASCII bytes.
+ghost use mathlib.Core.Path.{_≡_};
+ghost use mathlib.Core.List.{[], _∷_};
+ghost use lib.ListN.{length};
+ghost use Rattle.context.specs.Context.{bytesOf, contextOf, pushOf};
+ghost use Rattle.context.specs.Head.{scanOf, nonAsciiCount};
+
+// The last two bytes of an all-ASCII beginning, or fewer (`BeforeNonAscii` in the Rust).
+pub struct Context {
+    pub first: u8,
+    pub second: u8,
+    pub len: usize,
+}
+
+impl Context {
+    pub const MOST: usize = 2;
+
+    pub fn fresh() -> Context
+        ensures { λ r. ⌜ r ≡ contextOf [] ⌝ }
+    {
+        Context {
+            first: 0,
+            second: 0,
+            len: 0,
+        }
+    }
+
+    pub fn push(self, chunk: &[u8]) -> Context
+        ensures { λ r. ⌜ r ≡ pushOf self (now (chunk .entry)) ⌝ }
+    {
+        let n = chunk.len();
+        if n == 0 {
+            return self;
+        }
+        if n == 1 {
+            return self.push_byte(chunk[0]);
+        }
+        Context {
+            first: chunk[n - 2],
+            second: chunk[n - 1],
+            len: 2,
+        }
+    }
+
+    fn push_byte(self, b: u8) -> Context
+        ensures { λ r. ⌜ r ≡ pushOf self (b ∷ []) ⌝ }
+    {
+        let len = self.len;
+        if len == 0 {
+            return Context {
+                first: b,
+                second: 0,
+                len: 1,
+            };
+        }
+        if len == 1 {
+            return Context {
+                first: self.first,
+                second: b,
+                len: 2,
+            };
+        }
+        Context {
+            first: self.second,
+            second: b,
+            len: 2,
+        }
+    }
+
+    // Its two places. The bytes that it holds are the first `count` of them.
+    pub fn bytes(self) -> [u8; 2]
+        ensures { λ r. ⌜ r ≡ self .first ∷ self .second ∷ [] ⌝ }
+    {
+        [self.first, self.second]
+    }
+
+    pub fn count(self) -> usize
+        ensures { λ r. ⌜ r ≡ length (bytesOf self) ⌝ }
+    {
+        if self.len < Self::MOST {
+            return self.len;
+        }
+        Self::MOST
+    }
+}
+
+pub fn count_non_ascii(buffer: &[u8]) -> u64
+    ensures { λ r. ⌜ r ≡ nonAsciiCount (now (buffer .entry)) ⌝ }
+{
+    let mut count = 0;
+    let mut i = 0;
+    while i < buffer.len() {
+        if octets::is_non_ascii(buffer[i]) {
+            count += 1;
+        }
+        i += 1;
+    }
+    count
+}
+
+// What the scan of a chunk finds: the trigger and its offset, or the end of the chunk.
+pub enum Scanned {
+    Escape(usize),
+    NonAscii(usize),
+    End,
+}
+
+pub fn scan(chunk: &[u8]) -> Scanned
+    ensures { λ r. ⌜ r ≡ scanOf (now (chunk .entry)) ⌝ }
+{
+    let mut at = 0;
+    let found = loop {
+        if at == chunk.len() {
+            break Scanned::End;
+        }
+        let b = chunk[at];
+        if b == 0x1B {
+            break Scanned::Escape(at);
+        }
+        if octets::is_non_ascii(b) {
+            break Scanned::NonAscii(at);
+        }
+        at += 1;
+    };
+    found
+}

@@ -1,0 +1,7 @@
+-- What the other crates stand on: laws, and no code.
+pub mod Arms
+pub mod Determined
+pub mod Lists
+pub mod Run
+pub mod Sizes
+pub mod Table

@@ -1,0 +1,114 @@
+-- A machine's outcome, and its run over a stretch of bytes. A step gives the record after one byte and by how much the
+-- score changes, or that the machine drops out. D is what a drop-out carries. Assumes nothing.
+use mathlib.Core.Path.{_≡_, refl, sym, ap, _∙_}
+use mathlib.Core.List.{List, [], _∷_, _++_}
+use Prim.Native.Nat.{ℕ, suc, _+_, _*_, _<_, _≤_}
+use native.Mathlib.Nat.{add-zero, not-suc-le-zero}
+use native.Mathlib.Numerals.{add-one}
+use native.Mathlib.Omega.{arith}
+use lib.IntN.{ℤ, natAbs, _+ℤ_, +ℤ-assoc}
+use lib.ListN.{length, getD, drop}
+use lib.Seq.{drop-cons}
+use Rattle.laws.specs.Sizes.{abs-add}
+
+pub data Out (D S : Type 0) : Type 0 where
+  none : D → Out D S
+  live : S → ℤ → Out D S
+
+-- an outcome whose score is larger by k
+unfoldable pub plus : {D S : Type 0} → ℤ → Out D S → Out D S
+plus k (none d) = none d
+plus k (live m s) = live m (k +ℤ s)
+
+module _ {D S : Type 0} (step : S → ℕ → Out D S) where
+  -- one byte, from what the bytes before it gave
+  unfoldable pub feed : Out D S → ℕ → Out D S
+  feed (none d) b = none d
+  feed (live m s) b = plus s (step m b)
+
+  -- the bytes, one after the other
+  unfoldable pub run : Out D S → List ℕ → Out D S
+  run o [] = o
+  run o (b ∷ bs) = run (feed o b) bs
+
+-- ---- the three laws
+pub plus-plus : {D S : Type 0} (j k : ℤ) (o : Out D S) → plus j (plus k o) ≡ plus (j +ℤ k) o
+unfolding plus
+plus-plus j k (none d) = refl
+plus-plus j k (live m s) = ap (live m) (sym (+ℤ-assoc j k s))
+
+module _ {D S : Type 0} (step : S → ℕ → Out D S) where
+  pub run-nil : (o : Out D S) → run step o [] ≡ o
+  unfolding run
+  run-nil o = refl
+
+  -- joining: a run over xs ++ ys is a run over ys from the run over xs
+  pub run-append : (o : Out D S) (xs ys : List ℕ) → run step o (xs ++ ys) ≡ run step (run step o xs) ys
+  unfolding run
+  run-append o [] ys = refl
+  run-append o (x ∷ xs) ys = run-append (feed step o x) xs ys
+
+  -- from none it is none
+  pub run-none : (d : D) (xs : List ℕ) → run step (none d) xs ≡ none d
+  unfolding run feed
+  run-none d [] = refl
+  run-none d (x ∷ xs) = run-none d xs
+
+  feed-plus : (k : ℤ) (o : Out D S) (b : ℕ) → feed step (plus k o) b ≡ plus k (feed step o b)
+  unfolding feed plus
+  feed-plus k (none d) b = refl
+  feed-plus k (live m s) b = sym (plus-plus k s (step m b))
+
+  -- shifting: from a score larger by k it ends larger by k
+  pub run-plus : (k : ℤ) (o : Out D S) (xs : List ℕ) → run step (plus k o) xs ≡ plus k (run step o xs)
+  unfolding run
+  run-plus k o [] = refl
+  run-plus k o (x ∷ xs) = ap (λ (p : Out D S). run step p xs) (feed-plus k o x) ∙ run-plus k (feed step o x) xs
+
+  -- ---- for a loop: at its end, and one turn at i
+  pub run-done : (o : Out D S) (xs : List ℕ) → length xs ≤ 0 → run step o xs ≡ o
+  unfolding run
+  run-done o [] h = refl
+  run-done o (x ∷ xs) h = absurd (not-suc-le-zero h)
+
+  module _ (m : S) (s : ℤ) (xs : List ℕ) (i : ℕ) (h : i < length xs) where
+    run-at : run step (live m s) (drop i xs) ≡ run step (plus s (step m (getD xs i 0))) (drop (i + 1) xs)
+    unfolding run feed
+    run-at = rw (drop-cons xs i 0 h, add-one)
+
+    pub turn-live : (n : S) (g : ℤ) → step m (getD xs i 0) ≡ live n g → run step (live n (s +ℤ g)) (drop (i + 1) xs) ≡ run step (live m s) (drop i xs)
+    unfolding plus
+    turn-live n g e = sym (run-at ∙ ap (λ (o : Out D S). run step (plus s o) (drop (i + 1) xs)) e)
+
+    pub turn-none : (d : D) → step m (getD xs i 0) ≡ none d → none d ≡ run step (live m s) (drop i xs)
+    unfolding plus
+    turn-none d e = sym (run-at ∙ ap (λ (o : Out D S). run step (plus s o) (drop (i + 1) xs)) e ∙ run-none d (drop (i + 1) xs))
+
+-- ---- what a run keeps
+-- a live outcome has a record of which P holds, and a score of size at most c
+abbrev pub Within : {D S : Type 0} → (S → Type 0) → ℕ → Out D S → Type 0
+Within P c (none d) = Unit {0}
+Within P c (live m s) = P m × (natAbs s ≤ c)
+
+plus-within : {D S : Type 0} (P : S → Type 0) (k : ℤ) (c d : ℕ) (o : Out D S) → natAbs k ≤ c → Within P d o → Within P (c + d) (plus k o)
+unfolding plus
+plus-within P k c d (none x) p q = tt
+plus-within P k c d (live m s) p q = (q .0, omega (arith, abs-add k s, q .1))
+
+pub within-more : {D S : Type 0} (P : S → Type 0) (c d : ℕ) (o : Out D S) → c ≤ d → Within P c o → Within P d o
+within-more P c d (none x) h q = tt
+within-more P c d (live m s) h q = (q .0, omega (arith, q .1))
+
+-- P n is what holds of a record after n bytes, and a byte changes the score by at most g
+module _ {D S : Type 0} (step : S → ℕ → Out D S) (P : ℕ → S → Type 0) (g : ℕ) (keeps : (n : ℕ) (m : S) (b : ℕ) → P n m → Within (P (n + 1)) g (step m b)) where
+  feed-within : (n c : ℕ) (o : Out D S) (b : ℕ) → Within (P n) c o → Within (P (n + 1)) (c + g) (feed step o b)
+  unfolding feed
+  feed-within n c (none d) b q = tt
+  feed-within n c (live m s) b q = plus-within (P (n + 1)) s c g (step m b) (q .1) (keeps n m b (q .0))
+
+  pub run-within : (n c : ℕ) (o : Out D S) (xs : List ℕ) → Within (P n) c o → Within (P (n + length xs)) (c + g * length xs) (run step o xs)
+  unfolding run
+  run-within n c o [] q = rw add-zero (within-more (P n) c (c + g * 0) o (omega arith) q)
+  run-within n c o (x ∷ xs) q =
+      let e : n + 1 + length xs ≡ n + suc (length xs) = omega arith in
+      rw e at (within-more (P (n + 1 + length xs)) (c + g + g * length xs) (c + g * suc (length xs)) (run step (feed step o x) xs) (omega arith) (run-within (n + 1) (c + g) (feed step o x) xs (feed-within n c o x q)))
