@@ -1,0 +1,68 @@
+//! The given Rust over lent data. README.md says what each mode reads and
+//! writes.
+
+mod bench;
+mod digest;
+mod drive;
+mod input;
+mod leaves;
+mod lent;
+mod make;
+mod order;
+mod patch;
+mod random;
+mod record;
+mod replay;
+mod selftest;
+mod sheet;
+mod stand;
+mod stream;
+
+use lent::{weight, SingleByteData};
+use stand::{cjk_extra_score, data, memchr, Decoder, DecoderResult, Encoding};
+use stand::{BIG5, EUC_KR, ISO_2022_JP, UTF_8};
+
+// The given items as `cut` wrote them. They stand at the root so that the
+// modules above can see their private fields.
+include!(env!("GIVEN"));
+
+use std::io::{BufReader, BufWriter, Error, Read, Write};
+
+fn main() {
+    let args: Vec<String> = std::env::args().skip(1).collect();
+    let args: Vec<&str> = args.iter().map(String::as_str).collect();
+    let input = BufReader::with_capacity(1 << 16, std::io::stdin().lock());
+    let mut out = BufWriter::with_capacity(1 << 16, std::io::stdout().lock());
+    let done = run(&args, input, &mut out).and_then(|()| out.flush());
+    if let Err(error) = done {
+        eprintln!("oracle: {error}");
+        std::process::exit(1);
+    }
+}
+
+fn run(args: &[&str], input: impl Read, out: &mut impl Write) -> std::io::Result<()> {
+    match args {
+        ["replay"] => replay::run(input, out),
+        ["drive"] => drive::run(input, out, false),
+        ["drive", "--text"] => drive::run(input, out, true),
+        ["leaves"] => leaves::run(input, out),
+        ["digest"] => writeln!(out, "{}", digest::run(input)?),
+        ["gen", what @ ..] => make::run(what, out),
+        ["patch", changes @ ..] => {
+            let patched = patch::run(changes, whole(input)?).map_err(Error::other)?;
+            out.write_all(&patched)
+        }
+        ["bench", what @ ..] => {
+            let line = bench::run(what, &whole(input)?);
+            writeln!(out, "{}", line.ok_or(Error::other("bench: not known"))?)
+        }
+        ["selftest", folder] => selftest::run(folder, out),
+        _ => Err(Error::other("modes: replay, drive, leaves, digest, gen, patch, bench, selftest")),
+    }
+}
+
+fn whole(mut input: impl Read) -> std::io::Result<Vec<u8>> {
+    let mut bytes = Vec::new();
+    input.read_to_end(&mut bytes)?;
+    Ok(bytes)
+}

@@ -1,0 +1,214 @@
+//! Checks of the stand-ins, which no comparison with the given text can find
+//! wrong.
+
+use crate::lent;
+use crate::make::{tables, text};
+use crate::order::{fresh, in_order};
+use crate::random::Random;
+use crate::record::Record;
+use crate::stand::DecoderResult::{InputEmpty, Malformed, OutputFull};
+use crate::stand::{Decoder, DecoderResult, Encoding, BIG5, EUC_KR, ISO_2022_JP, UTF_8};
+use crate::stream::Stream;
+use std::io::{Error, Result, Write};
+
+/// Prints one line a check; fails at the first that does not hold.
+pub fn run(folder: &str, out: &mut impl Write) -> Result<()> {
+    lent::load(&tables::standard(folder)?.bytes);
+    let checks: [(&str, fn() -> bool); 9] = [
+        ("big5: 18590 pairs and 4 specials", || mapped(&BIG5) == (18_594, 1_713 + 4)),
+        ("euc-kr: 17048 pairs", || mapped(&EUC_KR) == (17_048, 0)),
+        ("iso-2022-jp: 7336 pairs", || japanese_pairs() == 7_336),
+        ("iso-2022-jp: escapes", japanese_escapes),
+        ("utf-8: as std, up to three bytes", || utf_8_short().all(|bytes| utf_8_agrees(&bytes))),
+        ("utf-8: as std, four bytes", || utf_8_long().all(|bytes| utf_8_agrees(&bytes))),
+        ("pairs: what is read", what_is_read),
+        ("long inputs: output full", output_full),
+        ("records: byte by byte as at once", records_carry_all),
+    ];
+    for (name, holds) in checks {
+        if !holds() {
+            return Err(Error::other(format!("selftest: {name}")));
+        }
+        writeln!(out, "holds: {name}")?;
+    }
+    Ok(())
+}
+
+/// One call that takes all of `src` in a fresh decoder.
+fn decode(encoding: &Encoding, src: &[u8], last: bool) -> (DecoderResult, usize, Vec<u16>) {
+    let mut dst = [0; 64];
+    let mut decoder = encoding.new_decoder_without_bom_handling();
+    let (result, read, written) = decoder.decode_to_utf16_without_replacement(src, &mut dst, last);
+    (result, read, dst[..written].to_vec())
+}
+
+/// How many pairs give units, and how many of them give two.
+fn mapped(encoding: &Encoding) -> (usize, usize) {
+    let (mut all, mut double) = (0, 0);
+    for (lead, second) in (0x81..=0xFE).flat_map(|lead| (0..=255).map(move |b| (lead, b))) {
+        let (result, read, units) = decode(encoding, &[lead, second], true);
+        if matches!(result, InputEmpty) && read == 2 {
+            all += 1;
+            double += (units.len() == 2) as usize;
+        }
+    }
+    (all, double)
+}
+
+fn japanese_pairs() -> usize {
+    let pairs = (0..=255).flat_map(|first| (0..=255).map(move |second| [first, second]));
+    let lives = |pair: &[u8; 2]| {
+        let src = [b"\x1B$B".as_slice(), pair, b"\x1B(B"].concat();
+        let (result, _, units) = decode(&ISO_2022_JP, &src, true);
+        matches!(result, InputEmpty) && units.len() == 1
+    };
+    pairs.filter(lives).count()
+}
+
+/// Whether ISO-2022-JP lives to the close.
+fn japanese(src: &[u8]) -> bool {
+    matches!(decode(&ISO_2022_JP, src, true).0, InputEmpty)
+}
+
+fn japanese_escapes() -> bool {
+    let good: [&[u8]; 9] = [
+        b"",
+        b"a~\\",
+        b"\x1B(B",
+        b"a\x1B(Bb\x1B(J~",
+        b"\x1B(I!_",
+        b"\x1B$@0!",
+        b"\x1B$B0!\x1B(B",
+        b"\x1B(B \x1B(B",
+        b"\x1B$B",
+    ];
+    let bad: [&[u8]; 15] = [
+        b"\x0E",
+        b"\x0F",
+        b"\x80",
+        b"\xFF",
+        b"\x1B",
+        b"\x1B(",
+        b"\x1B$",
+        b"\x1B(C",
+        b"\x1B$C",
+        b"\x1B\x1B(B",
+        b"\x1B(I`",
+        b"\x1B(I ",
+        b"\x1B$B0",
+        b"\x1B$B0\x1B(B",
+        b"\x1B(B\x1B(B",
+    ];
+    good.into_iter().all(japanese) && !bad.into_iter().any(japanese)
+}
+
+/// At its end, at each shorter length and fed byte by byte, the stand-in says
+/// what the standard library says.
+fn utf_8_agrees(bytes: &[u8]) -> bool {
+    let std = std::str::from_utf8(bytes);
+    let incomplete = matches!(std, Err(error) if error.error_len().is_none());
+    let closed = lives(bytes, bytes.len().max(1), true);
+    let open = lives(bytes, 1, false);
+    closed == std.is_ok() && open == (std.is_ok() || incomplete)
+}
+
+fn lives(bytes: &[u8], chunk: usize, last: bool) -> bool {
+    let mut decoder = UTF_8.new_decoder_without_bom_handling();
+    let mut step = |part: &[u8], last| step_lives(&mut decoder, part, last);
+    bytes.chunks(chunk).all(|part| step(part, false)) && (!last || step(b"", true))
+}
+
+fn step_lives(decoder: &mut Decoder, part: &[u8], last: bool) -> bool {
+    let mut dst = [0; 16];
+    let (result, _, written) = decoder.decode_to_utf8_without_replacement(part, &mut dst, last);
+    // What a whole sequence gives is the sequence itself.
+    let same = written != part.len() || dst[..written] == *part;
+    matches!(result, InputEmpty) && same
+}
+
+fn utf_8_short() -> impl Iterator<Item = Vec<u8>> {
+    let all = |length: u32| (0..1u32 << (8 * length)).map(move |n| (n, length));
+    let lead_first = |&(n, length): &(u32, u32)| length < 3 || n & 0xFF >= 0x80;
+    let bytes = |(n, length): (u32, u32)| n.to_le_bytes()[..length as usize].to_vec();
+    (0..=3).flat_map(all).filter(lead_first).map(bytes)
+}
+
+/// Every lead of four with second to fourth bytes around the boundaries.
+fn utf_8_long() -> impl Iterator<Item = Vec<u8>> {
+    const EDGES: [u8; 14] =
+        [0, 0x61, 0x7F, 0x80, 0x81, 0x8F, 0x90, 0x9F, 0xA0, 0xBE, 0xBF, 0xC0, 0xF0, 0xFF];
+    let edge = |n: usize, power: u32| EDGES[n / 14usize.pow(power) % 14];
+    let four = move |lead: u8| {
+        (0..14usize.pow(3)).map(move |n| vec![lead, edge(n, 0), edge(n, 1), edge(n, 2)])
+    };
+    (0x80..=0xFF).flat_map(four)
+}
+
+/// The table of conventions: result, its length, bytes read of the last call.
+fn what_is_read() -> bool {
+    let fed = |lead: &[u8], src: &[u8], last: bool| {
+        let mut decoder = BIG5.new_decoder_without_bom_handling();
+        let mut dst = [0; 2];
+        decoder.decode_to_utf16_without_replacement(lead, &mut dst, false);
+        decoder.decode_to_utf16_without_replacement(src, &mut dst, last)
+    };
+    matches!(fed(b"", b"\x81", false), (InputEmpty, 1, 0))
+        && matches!(fed(b"", b"\x80", false), (Malformed(1, _), 1, 0))
+        && matches!(fed(b"", b"\xFF", false), (Malformed(1, _), 1, 0))
+        && matches!(fed(b"\x81", b"a", false), (Malformed(1, _), 0, 0))
+        && matches!(fed(b"\x81", b"\xFF", false), (Malformed(2, _), 1, 0))
+        && matches!(fed(b"\x81", b"", true), (Malformed(_, _), 0, 0))
+        && matches!(fed(b"\xA4", b"\x40", true), (InputEmpty, 1, 1))
+        && matches!(fed(b"\x88", b"\x62", true), (InputEmpty, 1, 2))
+}
+
+/// More than the output holds is given back piece by piece, and whole.
+fn output_full() -> bool {
+    let mut decoder = UTF_8.new_decoder_without_bom_handling();
+    let src = "a\u{E9}\u{20AC}\u{1F600}".repeat(50).into_bytes();
+    let (mut rest, mut got, mut calls) = (src.as_slice(), Vec::<u8>::new(), 0);
+    loop {
+        let mut dst = [0; 16];
+        let (result, read, written) =
+            decoder.decode_to_utf8_without_replacement(rest, &mut dst, true);
+        got.extend(&dst[..written]);
+        rest = &rest[read..];
+        calls += 1;
+        match result {
+            OutputFull => continue,
+            InputEmpty => return got == src && rest.is_empty() && calls > 30,
+            Malformed(_, _) => return false,
+        }
+    }
+}
+
+/// A place that is made anew from its record before each byte ends as the
+/// place of a detector that gets all bytes in one closing chunk.
+fn records_carry_all() -> bool {
+    let mut random = Random::new(1);
+    (0..16_000u32).all(|number| {
+        let place = (number % 8) as u8;
+        let kind = *random.pick(&text::ALL);
+        let mut bytes = text::text(&mut random, kind, 24);
+        if bytes[0] != 0x1B {
+            // The front end lets everything through from here.
+            bytes.insert(0, 0x1B);
+        }
+        let mut stream = Stream::start(1 << place);
+        stream.feed(&bytes, true);
+        let at_once = Record::of(&stream.detector.candidates[usize::from(place)]);
+        at_once == byte_by_byte(place, &bytes)
+    })
+}
+
+fn byte_by_byte(place: u8, bytes: &[u8]) -> Record {
+    let mut record = fresh(place);
+    let ends = std::iter::once((&[][..], true));
+    for (part, last) in bytes.chunks(1).map(|part| (part, false)).chain(ends) {
+        assert!(in_order(place, &record));
+        let mut candidate = Record::from_bytes(&record.to_bytes()).candidate(place);
+        candidate.feed(part, last);
+        record = Record::of(&candidate);
+    }
+    record
+}
