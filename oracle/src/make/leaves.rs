@@ -5,14 +5,16 @@ use std::io::{Result, Write};
 
 const BYTES: [u8; 12] = [0x1A, 0x1B, 0x1C, 0x7F, 0x80, 0xFF, 0x2E, 0x40, 0x41, 0x5A, 0x5B, 0x61];
 
+const FEW: [u8; 6] = [0x1A, 0x1B, 0x7F, 0x80, 0x2E, 0x41];
+
 /// All chunks of these bytes up to a length, shorter ones first.
-fn chunks(longest: usize) -> Vec<Vec<u8>> {
+fn chunks(bytes: &[u8], longest: usize) -> Vec<Vec<u8>> {
     let mut all = vec![vec![]];
     let mut from = 0;
     for _ in 0..longest {
         let to = all.len();
         for at in from..to {
-            for byte in BYTES {
+            for &byte in bytes {
                 all.push([all[at].as_slice(), &[byte]].concat());
             }
         }
@@ -30,19 +32,19 @@ fn case(out: &mut impl Write, chunks: &[&[u8]]) -> Result<()> {
     Ok(())
 }
 
-/// One chunk of up to three bytes, two of up to two, three of up to one; then
-/// `count` random cases.
+/// One chunk of up to three bytes, two of up to two (over few), three of up to
+/// one; then `count` random cases.
 pub fn run(seed: u64, count: u64, out: &mut impl Write) -> Result<()> {
-    for chunk in &chunks(3) {
+    for chunk in &chunks(&BYTES, 3) {
         case(out, &[chunk])?;
     }
-    let short = chunks(2);
+    let short = chunks(&FEW, 2);
     for first in &short {
         for second in &short {
             case(out, &[first, second])?;
         }
     }
-    let shorter = chunks(1);
+    let shorter = chunks(&BYTES, 1);
     for first in &shorter {
         for second in &shorter {
             for third in &shorter {
