@@ -1,54 +1,91 @@
 //! One place alone: from a record, byte by byte.
 
+use crate::digest::Digest;
 use crate::input::Input;
 use crate::order::in_order;
 use crate::record::{Record, SIZE};
 use crate::sheet;
-use std::io::{Error, Read, Write};
+use std::io::{Error, Read, Result, Write};
 
-pub fn run(input: impl Read, out: &mut impl Write, text: bool) -> std::io::Result<()> {
+/// How the records of a command are written.
+pub enum Form {
+    Binary,
+    Text,
+    Digest,
+}
+
+pub fn run(input: impl Read, out: &mut impl Write, form: Form) -> Result<()> {
     let mut input = Input(input);
     let bad = |number: u64| Error::other(format!("bad input at case {number}"));
     input.tables().ok_or_else(|| bad(0))?;
     let mut number = 0;
     while let Some(command) = input.byte() {
         number += 1;
-        match command {
-            b'M' => {
-                let (place, records) = case(&mut input).ok_or_else(|| bad(number))?;
-                for record in records {
-                    match text {
-                        true => out.write_all(sheet::line(place, &record).as_bytes())?,
-                        false => out.write_all(&record.to_bytes())?,
-                    }
-                }
+        let (place, records) = match command {
+            b'M' => case(&mut input).ok_or_else(|| bad(number))?,
+            b'A' => all(&mut input).ok_or_else(|| bad(number))?,
+            b'T' => {
+                input.tables().ok_or_else(|| bad(number))?;
+                continue;
             }
-            b'T' => input.tables().ok_or_else(|| bad(number))?,
             _ => return Err(bad(number)),
-        }
+        };
+        write(out, &form, place, &records)?;
     }
     Ok(())
 }
 
-/// One case's place, and its records after each byte and after the close.
-fn case<R: Read>(input: &mut Input<R>) -> Option<(u8, Vec<Record>)> {
+fn write(out: &mut impl Write, form: &Form, place: u8, records: &[Record]) -> Result<()> {
+    let mut digest = Digest::new();
+    for record in records {
+        match form {
+            Form::Binary => out.write_all(&record.to_bytes())?,
+            Form::Text => out.write_all(sheet::line(place, record).as_bytes())?,
+            Form::Digest => digest.add(&record.to_bytes()),
+        }
+    }
+    match form {
+        Form::Digest => writeln!(out, "{digest}"),
+        _ => Ok(()),
+    }
+}
+
+/// A place and a starting record in order.
+fn start<R: Read>(input: &mut Input<R>) -> Option<(u8, Record)> {
     let place = input.byte().filter(|&place| place < 8)?;
     let given: [u8; SIZE] = input.bytes(SIZE)?.try_into().ok()?;
     let start = Record::from_bytes(&given);
+    (start.to_bytes() == given && in_order(place, &start)).then_some((place, start))
+}
+
+/// One case's place, and its records after each byte and after the close.
+fn case<R: Read>(input: &mut Input<R>) -> Option<(u8, Vec<Record>)> {
+    let (place, start) = start(input)?;
     let close = input.flag()?;
     let bytes = input.chunk()?;
-    if start.to_bytes() != given || !in_order(place, &start) {
-        return None;
-    }
-    let mut candidate = start.candidate(place);
     let mut records = Vec::with_capacity(bytes.len() + 1);
+    drive(place, &start, &bytes, close, &mut records);
+    Some((place, records))
+}
+
+/// Every two-byte stream from one record, closed, in the order of the bytes.
+fn all<R: Read>(input: &mut Input<R>) -> Option<(u8, Vec<Record>)> {
+    let (place, start) = start(input)?;
+    let mut records = Vec::with_capacity(3 << 16);
+    for stream in 0..=u16::MAX {
+        drive(place, &start, &stream.to_be_bytes(), true, &mut records);
+    }
+    Some((place, records))
+}
+
+fn drive(place: u8, start: &Record, bytes: &[u8], close: bool, records: &mut Vec<Record>) {
+    let mut candidate = start.candidate(place);
     for byte in bytes {
-        candidate.feed(&[byte], false);
+        candidate.feed(&[*byte], false);
         records.push(Record::of(&candidate));
     }
     if close {
         candidate.feed(&[], true);
         records.push(Record::of(&candidate));
     }
-    Some((place, records))
 }

@@ -43,8 +43,9 @@ fn main() {
 fn run(args: &[&str], input: impl Read, out: &mut impl Write) -> std::io::Result<()> {
     match args {
         ["replay"] => replay::run(input, out),
-        ["drive"] => drive::run(input, out, false),
-        ["drive", "--text"] => drive::run(input, out, true),
+        ["drive"] => drive::run(input, out, drive::Form::Binary),
+        ["drive", "--text"] => drive::run(input, out, drive::Form::Text),
+        ["drive", "--digest"] => drive::run(input, out, drive::Form::Digest),
         ["leaves"] => leaves::run(input, out),
         ["digest"] => writeln!(out, "{}", digest::run(input)?),
         ["gen", what @ ..] => make::run(what, out),

@@ -79,3 +79,14 @@ wide16-read z f = wide-read w16 z f (omega arith)
 
 pub wide32-read : (z : ℤ) → SFits w32 z → toZ w64 (ofZ w64 (toZ w32 (ofZ w32 z))) ≡ z
 wide32-read z f = wide-read w32 z f (omega arith)
+
+-- the sum of an i16 and an i32, both widened
+module _ (p l : ℤ) (hp : SFits w16 p) (hl : SFits w32 l) where
+  pub sum-abs : natAbs (p +ℤ l) ≤ 2 ^ 15 + 2 ^ 31
+  sum-abs = omega (arith, abs-add p l, abs-fits w16 p hp, abs-fits w32 l hl)
+
+  pub sum-wide-fits : SFits w64 (toZ w64 (ofZ w64 (toZ w16 (ofZ w16 p))) +ℤ toZ w64 (ofZ w64 (toZ w32 (ofZ w32 l))))
+  sum-wide-fits = rw (wide16-read p hp, wide32-read l hl) (fits64 (p +ℤ l) (omega (arith, sum-abs)))
+
+  pub sum-wide-read : toZ w64 (ofZ w64 (toZ w64 (ofZ w64 (toZ w16 (ofZ w16 p))) +ℤ toZ w64 (ofZ w64 (toZ w32 (ofZ w32 l))))) ≡ p +ℤ l
+  sum-wide-read = rw (wide16-read p hp, wide32-read l hl) (thru64 (p +ℤ l) (2 ^ 15 + 2 ^ 31) sum-abs (omega arith))

@@ -1,0 +1,17 @@
+pub mod ArabicFrench
+pub mod ArabicFrenchLaws
+pub mod Caseless
+pub mod CaselessLaws
+pub mod Class
+pub mod ClassLaws
+pub mod Fit
+pub mod FitLaws
+pub mod Lent
+pub mod Logical
+pub mod LogicalLaws
+pub mod Pair
+pub mod PairLaws
+pub mod Punctuation
+pub mod Visual
+pub mod VisualLaws
+pub mod Words

@@ -1,0 +1,32 @@
+-- Pair score and adjacency are taken unless this byte and the previous one are both ASCII. Assumes nothing.
+use mathlib.Core.Bool.{Bool, cond, _&&_, _||_}
+use mathlib.Core.List.{List}
+use Prim.Native.Nat.{ℕ, _+_, _*_}
+use lib.Dec.{eqb}
+use lib.IntN.{ℤ, pos, _+ℤ_}
+use lib.ListN.{getD}
+use Rattle.octets.specs.Octets.{ascii}
+use Rattle.weights.specs.Weights.{weightOf, latinAdjacency}
+use Rattle.single.specs.Lent.{Lent}
+use Rattle.single.specs.Class.{caselessOf, alphabeticOf, latinLetter}
+
+abbrev pub asciiPair : Bool → ℕ → Bool
+asciiPair prevAscii b = prevAscii && ascii b
+
+-- a Latin letter beside a non-Latin alphabetic class, in either order
+unfoldable pub adjacentOf : List ℕ → ℕ → ℕ → Bool
+adjacentOf marks previous current =
+    (eqb previous latinLetter && alphabeticOf marks current) || (eqb current latinLetter && alphabeticOf marks previous)
+
+-- entry 128 x current + previous
+abbrev pub pairScore : List ℤ → ℕ → ℕ → ℤ
+pairScore pairs previous current = getD pairs (128 * current + previous) (pos 0)
+
+unfoldable pub pairOf : List ℕ → List ℤ → List ℤ → ℕ → ℕ → ℤ
+pairOf marks pairs weights previous current =
+    cond (adjacentOf marks previous current) (pairScore pairs previous current +ℤ weightOf weights latinAdjacency)
+    (pairScore pairs previous current)
+
+-- by what a byte changes the score of each of the four machines
+abbrev pub gainOf : Lent → ℕ → Bool → ℕ → ℤ
+gainOf t previous prevAscii b = cond (asciiPair prevAscii b) (pos 0) (pairOf (t .marks) (t .pairs) (t .weights) previous (caselessOf t b))

@@ -1,0 +1,192 @@
+// What the four machines have in common: class, word length, pair score, adjacency, and the test of what is lent.
+ghost use mathlib.Core.Path.{_≡_};
+ghost use mathlib.Core.Bool.{cond};
+ghost use Prim.Native.Nat.{_+_, _*_, _^_, _<_, _≤_};
+ghost use lib.IntN.{pos, natAbs};
+ghost use lib.ListN.{length};
+ghost use Rattle.weights.specs.Weights.{term};
+ghost use Rattle.single.specs.Class.{alphabeticOf};
+ghost use Rattle.single.specs.Fit.{commonB, fitB};
+ghost use Rattle.single.specs.Lent.{lent, sizedB};
+ghost use Rattle.single.specs.Pair.{asciiPair, adjacentOf, pairOf};
+ghost use Rattle.single.specs.Punctuation.{punctuationOf, countOf};
+ghost use Rattle.single.specs.Words.{wordOf, longestOf};
+
+pub(crate) const LATIN_LETTER: u8 = 1;
+
+pub(crate) const NO_CLASS: u8 = 255;
+// A count at the entry of a call is at most this, so that no run makes it wrap.
+pub(crate) const ROOM: u64 = 4611686018427387904;
+
+pub(crate) struct Words {
+    pub current: u64,
+    pub longest: u64,
+}
+
+// Whether all that is lent has its length.
+pub(crate) fn is_sized(classes: &[u8], marks: &[u8], pairs: &[i16], weights: &[i32]) -> bool
+    ensures { λ r. ⌜ r ≡ sizedB (lent (now (classes .entry)) (now (marks .entry)) (now (pairs .entry)) (now (weights .entry))) ⌝ }
+{
+    if classes.len() != 256 {
+        return false;
+    }
+    if marks.len() != 128 {
+        return false;
+    }
+    if pairs.len() != 16384 {
+        return false;
+    }
+    weights.len() == weights::COUNT
+}
+
+// Whether n bytes can have led to the fields that the four records share.
+pub(crate) fn is_common(n: u64, prev: u8, word: u64, longest: u64) -> bool
+    ensures { λ r. ⌜ r ≡ commonB n prev word longest ⌝ }
+{
+    if 128 <= prev {
+        return false;
+    }
+    if n < word {
+        return false;
+    }
+    longest <= n
+}
+
+// The test at the entry of a public call.
+pub(crate) fn is_fit(
+    sound: bool,
+    bytes: usize,
+    classes: &[u8],
+    marks: &[u8],
+    pairs: &[i16],
+    weights: &[i32],
+) -> bool
+    ensures { λ r. ⌜ r ≡ fitB (lent (now (classes .entry)) (now (marks .entry)) (now (pairs .entry)) (now (weights .entry))) sound bytes ⌝ }
+{
+    if is_sized(classes, marks, pairs, weights) {
+        if sound {
+            return bytes <= 268435456;
+        }
+    }
+    false
+}
+
+pub(crate) fn is_non_latin_alphabetic(marks: &[u8], class: u8) -> bool
+    requires { ⌜ class < length (now marks) ⌝ }
+    ensures { λ r. ⌜ r ≡ alphabeticOf (now (marks .entry)) class ⌝ }
+{
+    marks[class as usize] != 0
+}
+
+pub(crate) fn words_after(current: u64, longest: u64, alphabetic: bool) -> Words
+    requires { ⌜ current ≤ 2 ^ 63 ⌝ }
+    ensures { λ r. ⌜ (r .current ≡ wordOf current alphabetic) × (r .longest ≡ longestOf current longest alphabetic) ⌝ }
+{
+    if alphabetic {
+        return Words {
+            current: current + 1,
+            longest,
+        };
+    }
+    if longest < current {
+        return Words {
+            current: 0,
+            longest: current,
+        };
+    }
+    Words {
+        current: 0,
+        longest,
+    }
+}
+
+// Whether a byte is ASCII punctuation of caseless class 0.
+pub(crate) fn is_punctuation(class: u8, b: u8) -> bool
+    ensures { λ r. ⌜ r ≡ punctuationOf class b ⌝ }
+{
+    if class == 0 {
+        return octets::is_ascii_punctuation(b);
+    }
+    false
+}
+
+pub(crate) fn count_if(count: u64, more: bool) -> u64
+    requires { ⌜ count ≤ 2 ^ 63 ⌝ }
+    ensures { λ r. ⌜ r ≡ countOf count more ⌝ }
+{
+    if more {
+        return count + 1;
+    }
+    count
+}
+
+// Whether this byte and the previous one are both ASCII.
+pub(crate) fn is_ascii_pair(prev_ascii: bool, b: u8) -> bool
+    ensures { λ r. ⌜ r ≡ asciiPair «prev_ascii» b ⌝ }
+{
+    if prev_ascii {
+        return octets::is_ascii(b);
+    }
+    false
+}
+
+// Whether a Latin letter and a non-Latin alphabetic class stand side by side.
+fn is_adjacent(prev: u8, current: u8, alphabetic: bool, marks: &[u8]) -> bool
+    requires { ⌜ prev < length (now marks) ⌝ }
+    requires { ⌜ alphabetic ≡ alphabeticOf (now marks) current ⌝ }
+    ensures { λ r. ⌜ r ≡ adjacentOf (now (marks .entry)) prev current ⌝ }
+{
+    if prev == LATIN_LETTER {
+        if alphabetic {
+            return true;
+        }
+    }
+    if current == LATIN_LETTER {
+        return is_non_latin_alphabetic(marks, prev);
+    }
+    false
+}
+
+// The pair score of `current` after `prev`, with the adjacency weight where it applies.
+fn pair_gain(
+    prev: u8,
+    current: u8,
+    alphabetic: bool,
+    marks: &[u8],
+    pairs: &[i16],
+    weights: &[i32],
+) -> i64
+    requires { ⌜ (length (now marks) ≡ 128) × ((length (now pairs) ≡ 16384) × (length (now weights) ≡ 17)) ⌝ }
+    requires { ⌜ (prev < 128) × (current < 128) ⌝ }
+    requires { ⌜ alphabetic ≡ alphabeticOf (now marks) current ⌝ }
+    ensures { λ r. ⌜ r ≡ pairOf (now (marks .entry)) (now (pairs .entry)) (now (weights .entry)) prev current ⌝ }
+    ensures { λ r. ⌜ natAbs r ≤ 2 * term ⌝ }
+{
+    let pair = pairs[128 * current as usize + prev as usize] as i64;
+    if is_adjacent(prev, current, alphabetic, marks) {
+        return pair + weights[weights::LATIN_ADJACENCY] as i64;
+    }
+    pair
+}
+
+// By what a byte of that class changes the score.
+pub(crate) fn gain(
+    ascii_pair: bool,
+    prev: u8,
+    current: u8,
+    alphabetic: bool,
+    marks: &[u8],
+    pairs: &[i16],
+    weights: &[i32],
+) -> i64
+    requires { ⌜ (length (now marks) ≡ 128) × ((length (now pairs) ≡ 16384) × (length (now weights) ≡ 17)) ⌝ }
+    requires { ⌜ (prev < 128) × (current < 128) ⌝ }
+    requires { ⌜ alphabetic ≡ alphabeticOf (now marks) current ⌝ }
+    ensures { λ r. ⌜ r ≡ cond «ascii_pair» (pos 0) (pairOf (now (marks .entry)) (now (pairs .entry)) (now (weights .entry)) prev current) ⌝ }
+    ensures { λ r. ⌜ natAbs r ≤ 2 * term ⌝ }
+{
+    if ascii_pair {
+        return 0;
+    }
+    pair_gain(prev, current, alphabetic, marks, pairs, weights)
+}
