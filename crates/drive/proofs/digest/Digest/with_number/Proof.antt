@@ -1,0 +1,46 @@
+-- `Digest::with_number` is safe and ends. Assumes nothing.
+use Prim.Native.Nat.{_-_, _≤_}
+use borrow.Author.Needs.{needs}
+use Rattle.drive.proofs.digest.Digest.with_number.Statement.{statement}
+use Rattle.drive.proofs.digest.Digest.with_number.Tie as tie
+
+abbrev Inv-loop : tie.InvT-loop
+Inv-loop n d₀ rest₀ i₀ d rest i = i ≤ 8
+
+abbrev μ-loop : tie.MeasureT-loop
+μ-loop n d₀ rest₀ i₀ d rest i = 8 - i
+
+loop-holds : tie.Need-loop-holds Inv-loop μ-loop
+loop-holds c = search needs
+
+cast-with-byte : tie.Need-cast-with-byte Inv-loop μ-loop
+cast-with-byte c = search needs
+
+with-byte-requires : tie.Need-with-byte-requires Inv-loop μ-loop
+with-byte-requires c κs = search needs
+
+add-i : tie.Need-add-i Inv-loop μ-loop
+add-i c = search needs
+
+loop-less : tie.Need-loop-less Inv-loop μ-loop
+loop-less c = search needs
+
+loop-again : tie.Need-loop-again Inv-loop μ-loop
+loop-again c = search needs
+
+returns : tie.Need-returns Inv-loop μ-loop
+returns c = search needs
+
+pub with-number-spec : {M : Type 1} → statement M
+with-number-spec =
+    tie.close
+    (tie.spec
+    Inv-loop
+    μ-loop
+    loop-holds
+    cast-with-byte
+    with-byte-requires
+    add-i
+    loop-less
+    loop-again
+    returns)
