@@ -23,6 +23,7 @@ pub fn run(input: impl Read, out: &mut impl Write, form: Form) -> Result<()> {
         number += 1;
         let (place, records) = match command {
             b'M' => case(&mut input).ok_or_else(|| bad(number))?,
+            b'R' => whole(&mut input).ok_or_else(|| bad(number))?,
             b'A' => all(&mut input).ok_or_else(|| bad(number))?,
             b'T' => {
                 input.tables().ok_or_else(|| bad(number))?;
@@ -66,6 +67,16 @@ fn case<R: Read>(input: &mut Input<R>) -> Option<(u8, Vec<Record>)> {
     let mut records = Vec::with_capacity(bytes.len() + 1);
     drive(place, &start, &bytes, close, &mut records);
     Some((place, records))
+}
+
+/// A case whose bytes are fed in one call: its record at the end.
+fn whole<R: Read>(input: &mut Input<R>) -> Option<(u8, Vec<Record>)> {
+    let (place, start) = start(input)?;
+    let close = input.flag()?;
+    let bytes = input.chunk()?;
+    let mut candidate = start.candidate(place);
+    candidate.feed(&bytes, close);
+    Some((place, vec![Record::of(&candidate)]))
 }
 
 /// Every two-byte stream from one record, closed, in the order of the bytes.

@@ -9,6 +9,7 @@ mod streams;
 pub mod tables;
 pub mod text;
 
+use crate::random::Random;
 use std::io::{Error, Result, Write};
 
 pub fn run(args: &[&str], out: &mut impl Write) -> Result<()> {
@@ -28,6 +29,15 @@ pub fn run(args: &[&str], out: &mut impl Write) -> Result<()> {
             let (place, seed) = (number(Some(place))?, number(Some(seed))?);
             place < 8 && drive::run(place as u8, kind, seed, number(Some(count))?, out)?
         }
+        ["text", name, seed, length] => match text::named(name) {
+            Some(kind) => {
+                let (mut random, length) =
+                    (Random::new(number(Some(seed))?), number(Some(length))?);
+                let bytes = text::text(&mut random, kind, length as usize);
+                out.write_all(&bytes[..length as usize]).map(|()| true)?
+            }
+            None => false,
+        },
         ["leaves", seed, count] => {
             leaves::run(number(Some(seed))?, number(Some(count))?, out).map(|()| true)?
         }

@@ -19,8 +19,9 @@ fn all_pairs(start: Place, classes: &[u8], marks: &[u8], pairs: &[i16], weights:
     let mut d = Digest::fresh();
     let mut stream: usize = 0;
     while stream < 65536 {
-        let first = start.fed((stream / 256) as u8, classes, marks, pairs, weights);
-        let second = first.fed((stream % 256) as u8, classes, marks, pairs, weights);
+        let bytes = [(stream / 256) as u8, (stream % 256) as u8];
+        let first = start.fed(&bytes[..1], classes, marks, pairs, weights);
+        let second = first.fed(&bytes[1..], classes, marks, pairs, weights);
         let closed = second.closed(classes, marks, pairs, weights);
         d = record::add(record::add(record::add(d, first), second), closed);
         stream += 1;
@@ -28,7 +29,24 @@ fn all_pairs(start: Place, classes: &[u8], marks: &[u8], pairs: &[i16], weights:
     d
 }
 
-// One stream from the record, closed or not.
+// One stream in one call: the record at its end.
+fn whole_stream(
+    start: Place,
+    bytes: &[u8],
+    close: bool,
+    classes: &[u8],
+    marks: &[u8],
+    pairs: &[i16],
+    weights: &[i32],
+) -> Digest {
+    let p = start.fed(bytes, classes, marks, pairs, weights);
+    if close {
+        return record::add(Digest::fresh(), p.closed(classes, marks, pairs, weights));
+    }
+    record::add(Digest::fresh(), p)
+}
+
+// One stream byte by byte: the record after each, and after the close if there is one.
 fn one_stream(
     start: Place,
     bytes: &[u8],
@@ -42,7 +60,7 @@ fn one_stream(
     let mut p = start;
     let mut i = 0;
     while i < bytes.len() {
-        p = p.fed(bytes[i], classes, marks, pairs, weights);
+        p = p.fed(&bytes[i..i + 1], classes, marks, pairs, weights);
         d = record::add(d, p);
         i += 1;
     }
@@ -70,6 +88,7 @@ fn read_part(buf: &mut [u8], len: usize) -> usize
 // A stream's bytes, of which the length is known, read from standard input.
 fn read_bytes(
     start: Place,
+    whole: bool,
     len: usize,
     close: bool,
     classes: &[u8],
@@ -83,11 +102,15 @@ fn read_bytes(
     if read_part(&mut bytes, len) < len {
         return false;
     }
+    if whole {
+        whole_stream(start, &bytes[..len], close, classes, marks, pairs, weights).print();
+        return true;
+    }
     one_stream(start, &bytes[..len], close, classes, marks, pairs, weights).print();
     true
 }
 
-fn read_stream(start: Place, classes: &[u8], marks: &[u8], pairs: &[i16], weights: &[i32]) -> bool {
+fn read_stream(start: Place, whole: bool, classes: &[u8], marks: &[u8], pairs: &[i16], weights: &[i32]) -> bool {
     let close = next_byte() == 1;
     let mut size = [0u8; 4];
     if io::read_full(STDIN_FILENO, &mut size) != 4 {
@@ -97,7 +120,7 @@ fn read_stream(start: Place, classes: &[u8], marks: &[u8], pairs: &[i16], weight
     if 65536 < n {
         return false;
     }
-    read_bytes(start, n as usize, close, classes, marks, pairs, weights)
+    read_bytes(start, whole, n as usize, close, classes, marks, pairs, weights)
 }
 
 // One case at place 4 + k: its record, and what the command adds.
@@ -124,7 +147,7 @@ fn case(
         all_pairs(start, c, m, p, weights).print();
         return true;
     }
-    read_stream(start, c, m, p, weights)
+    read_stream(start, command == 0x52, c, m, p, weights)
 }
 
 // What follows a command. Answers whether it was well formed.
@@ -133,7 +156,9 @@ fn turn(command: usize, classes: &[u8], marks: &[u8], pairs: &[i16], weights: &[
 {
     if command != 0x41 {
         if command != 0x4D {
-            return false;
+            if command != 0x52 {
+                return false;
+            }
         }
     }
     let place = next_byte();

@@ -65,9 +65,10 @@ fn of_arabic_french(r: arabic_french::Ran, score: i64) -> Place {
 }
 
 impl Place {
+    // A part of a stream in one call.
     pub(crate) fn fed(
         self,
-        b: u8,
+        part: &[u8],
         classes: &[u8],
         marks: &[u8],
         pairs: &[i16],
@@ -76,16 +77,15 @@ impl Place {
         let Place::Live(machine, score) = self else {
             return self;
         };
-        let part = [b];
         match machine {
             Machine::Caseless(m) => of_caseless(
-                m.run(&part, classes, marks, pairs, weights),
+                m.run(part, classes, marks, pairs, weights),
                 score,
             ),
-            Machine::Logical(m) => of_logical(m.run(&part, classes, marks, pairs, weights), score),
-            Machine::Visual(m) => of_visual(m.run(&part, classes, marks, pairs, weights), score),
+            Machine::Logical(m) => of_logical(m.run(part, classes, marks, pairs, weights), score),
+            Machine::Visual(m) => of_visual(m.run(part, classes, marks, pairs, weights), score),
             Machine::ArabicFrench(m) => {
-                of_arabic_french(m.run(&part, classes, marks, pairs, weights), score)
+                of_arabic_french(m.run(part, classes, marks, pairs, weights), score)
             }
         }
     }

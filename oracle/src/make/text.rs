@@ -30,6 +30,13 @@ pub const ALL: [Text; 8] = [
     Text::Telling,
 ];
 
+/// The kind of that name.
+pub fn named(name: &str) -> Option<Text> {
+    let names = ["ascii", "utf-8", "iso-2022-jp", "euc-kr", "big5", "single", "noise", "telling"];
+    let at = names.iter().position(|&known| known == name)?;
+    Some(ALL[at])
+}
+
 /// Text of at least `length` bytes, by whole pieces.
 pub fn text(random: &mut Random, kind: Text, length: usize) -> Vec<u8> {
     let mut bytes = Vec::new();

@@ -16,14 +16,29 @@ fresh-requires c κs = search needs
 loop-holds : tie.Need-loop-holds Inv-loop μ-loop
 loop-holds c = search needs
 
-cast-fed : tie.Need-cast-fed Inv-loop μ-loop
-cast-fed c = search needs
+cast-t14 : tie.Need-cast-t14 Inv-loop μ-loop
+cast-t14 c = search needs
+
+cast-t16 : tie.Need-cast-t16 Inv-loop μ-loop
+cast-t16 c = search needs
+
+array-share-prefix-bytes : tie.Need-array-share-prefix-bytes Inv-loop μ-loop
+array-share-prefix-bytes c = search needs
+
+slice-aggregate-fed : tie.Need-slice-aggregate-fed Inv-loop μ-loop
+slice-aggregate-fed c = search needs
 
 fed-requires : tie.Need-fed-requires Inv-loop μ-loop
 fed-requires c κs = search needs
 
-cast-fed-2 : tie.Need-cast-fed-2 Inv-loop μ-loop
-cast-fed-2 c = search needs
+sub-fed : tie.Need-sub-fed Inv-loop μ-loop
+sub-fed c = search needs
+
+part-fed-start : tie.Need-part-fed-start Inv-loop μ-loop
+part-fed-start c = search needs
+
+part-fed-end : tie.Need-part-fed-end Inv-loop μ-loop
+part-fed-end c = search needs
 
 fed-requires-2 : tie.Need-fed-requires-2 Inv-loop μ-loop
 fed-requires-2 c κs = search needs
@@ -60,9 +75,14 @@ all-pairs-spec =
     μ-loop
     fresh-requires
     loop-holds
-    cast-fed
+    cast-t14
+    cast-t16
+    array-share-prefix-bytes
+    slice-aggregate-fed
     fed-requires
-    cast-fed-2
+    sub-fed
+    part-fed-start
+    part-fed-end
     fed-requires-2
     closed-requires
     add-requires

@@ -17,8 +17,17 @@ fresh-requires c κs = search needs
 loop-holds : tie.Need-loop-holds Inv-loop μ-loop
 loop-holds c = search needs
 
-shared-slice-read-fed : tie.Need-shared-slice-read-fed Inv-loop μ-loop
-shared-slice-read-fed c = search needs
+add-fed : tie.Need-add-fed Inv-loop μ-loop
+add-fed c = search needs
+
+sub-fed : tie.Need-sub-fed Inv-loop μ-loop
+sub-fed c = search needs
+
+part-fed-start : tie.Need-part-fed-start Inv-loop μ-loop
+part-fed-start c = search needs
+
+part-fed-end : tie.Need-part-fed-end Inv-loop μ-loop
+part-fed-end c = search needs
 
 fed-requires : tie.Need-fed-requires Inv-loop μ-loop
 fed-requires c κs = search needs
@@ -55,7 +64,10 @@ one-stream-spec =
     μ-loop
     fresh-requires
     loop-holds
-    shared-slice-read-fed
+    add-fed
+    sub-fed
+    part-fed-start
+    part-fed-end
     fed-requires
     add-requires
     add-i
