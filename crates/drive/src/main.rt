@@ -110,7 +110,14 @@ fn read_bytes(
     true
 }
 
-fn read_stream(start: Place, whole: bool, classes: &[u8], marks: &[u8], pairs: &[i16], weights: &[i32]) -> bool {
+fn read_stream(
+    start: Place,
+    whole: bool,
+    classes: &[u8],
+    marks: &[u8],
+    pairs: &[i16],
+    weights: &[i32],
+) -> bool {
     let close = next_byte() == 1;
     let mut size = [0u8; 4];
     if io::read_full(STDIN_FILENO, &mut size) != 4 {
@@ -120,7 +127,16 @@ fn read_stream(start: Place, whole: bool, classes: &[u8], marks: &[u8], pairs: &
     if 65536 < n {
         return false;
     }
-    read_bytes(start, whole, n as usize, close, classes, marks, pairs, weights)
+    read_bytes(
+        start,
+        whole,
+        n as usize,
+        close,
+        classes,
+        marks,
+        pairs,
+        weights,
+    )
 }
 
 // One case at place 4 + k: its record, and what the command adds.

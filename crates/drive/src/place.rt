@@ -78,10 +78,7 @@ impl Place {
             return self;
         };
         match machine {
-            Machine::Caseless(m) => of_caseless(
-                m.run(part, classes, marks, pairs, weights),
-                score,
-            ),
+            Machine::Caseless(m) => of_caseless(m.run(part, classes, marks, pairs, weights), score),
             Machine::Logical(m) => of_logical(m.run(part, classes, marks, pairs, weights), score),
             Machine::Visual(m) => of_visual(m.run(part, classes, marks, pairs, weights), score),
             Machine::ArabicFrench(m) => {

@@ -43,3 +43,9 @@ module _ (f : ℕ → Bool) (v : Bool) where
   -- the arm of the n numbers from i on, where the other arms have the keys ks
   pub in-range : (ks : List ℕ) (i n : ℕ) → T (every (λ (k : ℕ) (u : Unit {0}). hasKey ks k || isAt k) i (nothing n)) → (x : ℕ) → i ≤ x → x < i + n → (OneOf ks x → ⊥) → v ≡ f x
   in-range ks i n t x p q o = same v (f x) (other (hasKey ks x) (isAt x) (within (λ (k : ℕ). hasKey ks k || isAt k) i n t x p q) (λ h. o (hit ks x h)))
+
+  -- the same where two other arms have the keys ks and ls
+  pub in-range-of-two : (ks ls : List ℕ) (i n : ℕ) → T (every (λ (k : ℕ) (u : Unit {0}). hasKey ks k || (hasKey ls k || isAt k)) i (nothing n)) → (x : ℕ) → i ≤ x → x < i + n → (OneOf ks x → ⊥) → (OneOf ls x → ⊥) → v ≡ f x
+  in-range-of-two ks ls i n t x p q o r =
+      same v (f x)
+      (other (hasKey ls x) (isAt x) (other (hasKey ks x) (hasKey ls x || isAt x) (within (λ (k : ℕ). hasKey ks k || (hasKey ls k || isAt k)) i n t x p q) (λ h. o (hit ks x h))) (λ h. r (hit ls x h)))

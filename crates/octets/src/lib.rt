@@ -35,8 +35,10 @@ pub fn is_ascii_letter(b: u8) -> bool
 pub fn is_ascii_punctuation(b: u8) -> bool
     ensures { λ r. ⌜ r ≡ isPunctuation b ⌝ }
 {
+    // With ':' beside it ';' would make a range, and the test two; so all six are one test of a bit.
     match b {
-        b'.' | b',' | b':' | b';' | b'?' | b'!' => true,
+        b'.' | b',' | b':' | b'?' | b'!' => true,
+        b';' => true,
         _ => false,
     }
 }

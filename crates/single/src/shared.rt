@@ -88,6 +88,9 @@ pub(crate) fn words_after(current: u64, longest: u64, alphabetic: bool) -> Words
             longest,
         };
     }
+    if current == 0 {
+        return Words { current, longest };
+    }
     if longest < current {
         return Words {
             current: 0,
