@@ -4,4 +4,5 @@ pub mod Determined
 pub mod Lists
 pub mod Run
 pub mod Sizes
+pub mod Still
 pub mod Table

@@ -1,0 +1,76 @@
+-- Machines whose step never changes the score: validators. What a run of one keeps, and where it can end. Assumes nothing.
+use mathlib.Core.Path.{_≡_, refl, sym, ap, _∙_}
+use mathlib.Core.Bool.{Bool, true, false, _||_}
+use mathlib.Core.List.{List, [], _∷_, _++_}
+use Prim.Native.Nat.{ℕ}
+use lib.IntN.{ℤ, pos, _+ℤ_, +ℤ-idr}
+use Rattle.laws.specs.Lists.{any}
+use Rattle.laws.specs.Run.{Out, none, live, plus, feed, run, run-append, run-none, run-plus}
+
+-- dropped out, or live with the score s and a record of which P holds
+abbrev pub Ends : {D S : Type 0} → (S → Type 0) → ℤ → Out D S → Type 0
+Ends P s (none d) = Unit {0}
+Ends P s (live m t) = P m × (t ≡ s)
+
+plus-ends : {D S : Type 0} (P : S → Type 0) (s : ℤ) (o : Out D S) → Ends P (pos 0) o → Ends P s (plus s o)
+unfolding plus
+plus-ends P s (none d) q = tt
+plus-ends P s (live m t) q = (q .0, ap (λ (z : ℤ). s +ℤ z) (q .1) ∙ +ℤ-idr s)
+
+pub or-false : (a b : Bool) → (a || b) ≡ false → (a ≡ false) × (b ≡ false)
+or-false true b e = (e, cc)
+or-false false b e = (refl, e)
+
+module _ {D S : Type 0} (step : S → ℕ → Out D S) where
+  -- ---- a step that keeps P and changes no score: so does a run
+  module _ (P : S → Type 0) (keeps : (m : S) (b : ℕ) → P m → Ends P (pos 0) (step m b)) where
+    feed-ends : (s : ℤ) (o : Out D S) (b : ℕ) → Ends P s o → Ends P s (feed step o b)
+    unfolding feed
+    feed-ends s (none d) b q = tt
+    feed-ends s (live m t) b q = rw (q .1) (plus-ends P s (step m b) (keeps m b (q .0)))
+
+    pub run-ends : (s : ℤ) (o : Out D S) (xs : List ℕ) → Ends P s o → Ends P s (run step o xs)
+    unfolding run
+    run-ends s o [] q = q
+    run-ends s o (x ∷ xs) q = run-ends s (feed step o x) xs (feed-ends s o x q)
+
+  -- ---- from any score as from 0
+  pub from-zero : (m : S) (s : ℤ) (xs : List ℕ) → run step (live m s) xs ≡ plus s (run step (live m (pos 0)) xs)
+  unfolding plus
+  from-zero m s xs = ap (λ (z : ℤ). run step (live m z) xs) (sym (+ℤ-idr s)) ∙ run-plus step s (live m (pos 0)) xs
+
+  pub lives : (m n : S) (s : ℤ) (xs : List ℕ) → run step (live m (pos 0)) xs ≡ live n (pos 0) → run step (live m s) xs ≡ live n s
+  unfolding plus
+  lives m n s xs e = from-zero m s xs ∙ (ap (plus s) e ∙ ap (live n) (+ℤ-idr s))
+
+  pub drops : (m : S) (d : D) (s : ℤ) (xs : List ℕ) → run step (live m (pos 0)) xs ≡ none d → run step (live m s) xs ≡ none d
+  unfolding plus
+  drops m d s xs e = from-zero m s xs ∙ ap (plus s) e
+
+  -- ---- the first byte of a run that is from the score 0
+  pub run-first : (m n : S) (b : ℕ) (bs : List ℕ) → step m b ≡ live n (pos 0) → run step (live m (pos 0)) (b ∷ bs) ≡ run step (live n (pos 0)) bs
+  unfolding run feed plus
+  run-first m n b bs e = rw e
+
+  pub run-drops : (m : S) (d : D) (b : ℕ) (bs : List ℕ) → step m b ≡ none d → run step (live m (pos 0)) (b ∷ bs) ≡ none d
+  unfolding run feed plus
+  run-drops m d b bs e = rw e (run-none step d bs)
+
+  -- ---- bytes that leave a record as it is
+  pub run-stays : (m : S) (stirs : ℕ → Bool) → ((b : ℕ) → stirs b ≡ false → step m b ≡ live m (pos 0)) → (s : ℤ) (xs : List ℕ) → any stirs xs ≡ false → run step (live m s) xs ≡ live m s
+  unfolding run feed plus any
+  run-stays m stirs stays s [] e = refl
+  run-stays m stirs stays s (x ∷ xs) e =
+      let q = or-false (stirs x) (any stirs xs) e in
+      rw (stays x (q .0), +ℤ-idr) (run-stays m stirs stays s xs (q .1))
+
+  -- ---- what begins a stretch that lives, lives
+  abbrev pub Lives : Out D S → Type 0
+  Lives o = (m : S) × ((s : ℤ) × (o ≡ live m s))
+
+  begun : (o : Out D S) (ys : List ℕ) → Lives (run step o ys) → Lives o
+  begun (none d) ys l = let e : none d ≡ live (l .0) (l .1 .0) = sym (run-none step d ys) ∙ l .1 .1 in (l .0, (l .1 .0, e))
+  begun (live m s) ys l = (m, (s, refl))
+
+  pub lives-begun : (o : Out D S) (xs ys : List ℕ) → Lives (run step o (xs ++ ys)) → Lives (run step o xs)
+  lives-begun o xs ys l = begun (run step o xs) ys (rw (run-append step o xs ys) at l)

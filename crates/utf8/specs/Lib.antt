@@ -1,0 +1,3 @@
+pub mod Standard
+pub mod Utf8
+pub mod Utf8Laws
