@@ -3,9 +3,13 @@ use mathlib.Core.Path.{_≡_, refl, sym, ap, _∙_}
 use mathlib.Core.Bool.{Bool, true, false, _||_}
 use mathlib.Core.List.{List, [], _∷_, _++_}
 use Prim.Native.Nat.{ℕ}
+use native.Mathlib.Omega.{arith}
 use lib.IntN.{ℤ, pos, _+ℤ_, +ℤ-idr}
 use Rattle.laws.specs.Lists.{any}
 use Rattle.laws.specs.Run.{Out, none, live, plus, feed, run, run-append, run-none, run-plus}
+
+abbrev pub Lives : {D S : Type 0} → Out D S → Type 0
+Lives {S} o = (m : S) × ((s : ℤ) × (o ≡ live m s))
 
 -- dropped out, or live with the score s and a record of which P holds
 abbrev pub Ends : {D S : Type 0} → (S → Type 0) → ℤ → Out D S → Type 0
@@ -65,12 +69,30 @@ module _ {D S : Type 0} (step : S → ℕ → Out D S) where
       rw (stays x (q .0), +ℤ-idr) (run-stays m stirs stays s xs (q .1))
 
   -- ---- what begins a stretch that lives, lives
-  abbrev pub Lives : Out D S → Type 0
-  Lives o = (m : S) × ((s : ℤ) × (o ≡ live m s))
-
   begun : (o : Out D S) (ys : List ℕ) → Lives (run step o ys) → Lives o
   begun (none d) ys l = let e : none d ≡ live (l .0) (l .1 .0) = sym (run-none step d ys) ∙ l .1 .1 in (l .0, (l .1 .0, e))
   begun (live m s) ys l = (m, (s, refl))
 
   pub lives-begun : (o : Out D S) (xs ys : List ℕ) → Lives (run step o (xs ++ ys)) → Lives (run step o xs)
   lives-begun o xs ys l = begun (run step o xs) ys (rw (run-append step o xs ys) at l)
+
+-- ---- the end of the stream, from what the bytes before it gave
+unfoldable pub ended : {D S : Type 0} → (S → Out D S) → Out D S → Out D S
+ended close (none d) = none d
+ended close (live m s) = plus s (close m)
+
+module _ {D S : Type 0} where
+  pub none-live : {d : D} {m : S} {s : ℤ} → none d ≡ live m s → ⊥
+  none-live e = let z : _≡_ {A = ℕ} 0 1 = cc in omega arith
+
+  -- what lives with a score that is larger by k, lives
+  pub plus-live : (k : ℤ) (o : Out D S) (m : S) (s : ℤ) → plus k o ≡ live m s → (t : ℤ) × (o ≡ live m t)
+  unfolding plus
+  plus-live k (none d) m s e = (s, e)
+  plus-live k (live n t) m s e = let q : n ≡ m = cc in (t, ap (λ (x : S). live x t) q)
+
+  -- what lives at the end, lived before it
+  pub ended-live : (close : S → Out D S) (o : Out D S) → Lives (ended close o) → (m : S) × ((s : ℤ) × ((o ≡ live m s) × Lives (close m)))
+  unfolding ended
+  ended-live close (none d) l = absurd (none-live (l .1 .1))
+  ended-live close (live m s) l = (m, (s, (refl, (l .0, plus-live s (close m) (l .0) (l .1 .0) (l .1 .1)))))

@@ -10,7 +10,7 @@ use lib.ListN.{length}
 use borrow.Author.Tests.{eq-eqb, ne-eqb, eqb-true, le-leb, lt-leb, leb-true, leb-false}
 use Rattle.laws.specs.Lists.{any}
 use Rattle.laws.specs.Run.{Out, none, live, run, run-append}
-use Rattle.laws.specs.Still.{Ends, run-ends, run-stays}
+use Rattle.laws.specs.Still.{Lives, Ends, none-live, run-ends, run-stays}
 use Rattle.octets.specs.Octets.{between, nonAscii}
 use Rattle.octets.specs.BetweenLaws.{both, inside, below, above}
 use Rattle.utf8.specs.declared.Utf8.{Utf8}
@@ -59,13 +59,15 @@ module _ (m : Utf8) (b : ℕ) where
   step-trail e = rw (ne-eqb _ _ e)
 
   module _ (e : m .need ≡ 0 → ⊥) where
-    pub step-below : b < m .lo → dropped ≡ stepOf m b
+    pub step-outside : between (m .lo) (m .hi) b ≡ false → dropped ≡ stepOf m b
     unfolding trailOf
-    step-below h = sym (step-trail e ∙ rw (below (m .lo) (m .hi) b h))
+    step-outside h = sym (step-trail e ∙ rw h)
+
+    pub step-below : b < m .lo → dropped ≡ stepOf m b
+    step-below h = step-outside (below (m .lo) (m .hi) b h)
 
     pub step-above : m .hi < b → dropped ≡ stepOf m b
-    unfolding trailOf
-    step-above h = sym (step-trail e ∙ rw (above (m .lo) (m .hi) b h))
+    step-above h = step-outside (above (m .lo) (m .hi) b h)
 
     pub step-within : m .lo ≤ b → b ≤ m .hi → alive (needs (m .need - 1) 0x80 0xBF) ≡ stepOf m b
     unfolding trailOf
@@ -107,7 +109,7 @@ sound-true m after-F4 = refl
 
 -- ---- a step keeps it, and changes no score
 -- after a lead that cuts the next byte's range at one end, or at none
-cut-range : (n lo hi k l b : ℕ) → k < l → n ≤ 3 → Sound (needs n lo 0xBF) → Sound (needs n 0x80 hi) → Sound (needs n (cond (eqb b k) lo 0x80) (cond (eqb b l) hi 0xBF))
+pub cut-range : (n lo hi k l b : ℕ) → k < l → n ≤ 3 → Sound (needs n lo 0xBF) → Sound (needs n 0x80 hi) → Sound (needs n (cond (eqb b k) lo 0x80) (cond (eqb b l) hi 0xBF))
 cut-range n lo hi k l b apart h p q = at (eqb b k) (eqb b l) refl refl
   where
     at : (t u : Bool) → eqb b k ≡ t → eqb b l ≡ u → Sound (needs n (cond t lo 0x80) (cond u hi 0xBF))
@@ -136,7 +138,7 @@ trail-sound n lo hi b h = at (between lo hi b)
     at true = (plain {n = n - 1} (omega arith), refl)
     at false = tt
 
-most-needed : (m : Utf8) → Sound m → m .need ≤ 3
+pub most-needed : (m : Utf8) → Sound m → m .need ≤ 3
 most-needed m (plain h) = h
 most-needed m after-E0 = omega arith
 most-needed m after-ED = omega arith
@@ -166,6 +168,15 @@ run-joins o xs ys = run-append stepOf o xs ys
 pub ascii-stays : (s : ℤ) (xs : List ℕ) → any nonAscii xs ≡ false → run stepOf (live fresh s) xs ≡ live fresh s
 unfolding stepOf
 ascii-stays s xs e = run-stays stepOf fresh nonAscii (λ (b : ℕ) (q : nonAscii b ≡ false). sym (lead-ascii b (leb-false 0x80 b q))) s xs e
+
+-- ---- the close: live exactly if nothing is needed
+close-at : (m : Utf8) (t : Bool) → eqb (m .need) 0 ≡ t → Lives (cond t (alive m) dropped) → m .need ≡ 0
+close-at m true e l = eqb-true _ _ e
+close-at m false e l = absurd (none-live (l .1 .1))
+
+pub close-whole : (m : Utf8) → Lives (closeOf m) → m .need ≡ 0
+unfolding closeOf
+close-whole m l = close-at m (eqb (m .need) 0) refl l
 
 -- ---- what a call gives
 module _ (m : Utf8) (xs : List ℕ) where

@@ -26,7 +26,9 @@ pub enum Ran {
 
 impl Utf8 {
     pub const LOWER: u8 = 0x80;
+
     pub const UPPER: u8 = 0xBF;
+
     pub const MOST: usize = 268_435_456;
 
     pub fn fresh() -> Utf8
