@@ -6,3 +6,4 @@ pub mod Run
 pub mod Sizes
 pub mod Still
 pub mod Table
+pub mod Tests

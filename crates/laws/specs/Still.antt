@@ -1,11 +1,12 @@
 -- Machines whose step never changes the score: validators. What a run of one keeps, and where it can end. Assumes nothing.
 use mathlib.Core.Path.{_≡_, refl, sym, ap, _∙_}
-use mathlib.Core.Bool.{Bool, true, false, _||_}
+use mathlib.Core.Bool.{Bool, false}
 use mathlib.Core.List.{List, [], _∷_, _++_}
 use Prim.Native.Nat.{ℕ}
 use native.Mathlib.Omega.{arith}
 use lib.IntN.{ℤ, pos, _+ℤ_, +ℤ-idr}
 use Rattle.laws.specs.Lists.{any}
+use Rattle.laws.specs.Tests.{neither}
 use Rattle.laws.specs.Run.{Out, none, live, plus, feed, run, run-append, run-none, run-plus}
 
 abbrev pub Lives : {D S : Type 0} → Out D S → Type 0
@@ -20,10 +21,6 @@ plus-ends : {D S : Type 0} (P : S → Type 0) (s : ℤ) (o : Out D S) → Ends P
 unfolding plus
 plus-ends P s (none d) q = tt
 plus-ends P s (live m t) q = (q .0, ap (λ (z : ℤ). s +ℤ z) (q .1) ∙ +ℤ-idr s)
-
-pub or-false : (a b : Bool) → (a || b) ≡ false → (a ≡ false) × (b ≡ false)
-or-false true b e = (e, cc)
-or-false false b e = (refl, e)
 
 module _ {D S : Type 0} (step : S → ℕ → Out D S) where
   -- ---- a step that keeps P and changes no score: so does a run
@@ -65,7 +62,7 @@ module _ {D S : Type 0} (step : S → ℕ → Out D S) where
   unfolding run feed plus any
   run-stays m stirs stays s [] e = refl
   run-stays m stirs stays s (x ∷ xs) e =
-      let q = or-false (stirs x) (any stirs xs) e in
+      let q = neither (stirs x) (any stirs xs) e in
       rw (stays x (q .0), +ℤ-idr) (run-stays m stirs stays s xs (q .1))
 
   -- ---- what begins a stretch that lives, lives

@@ -4,12 +4,8 @@ use mathlib.Core.Bool.{Bool, true, false, _&&_, and-false}
 use Prim.Native.Nat.{ℕ, _<_, _≤_}
 use lib.Dec.{leb}
 use borrow.Author.Tests.{le-leb, lt-leb, leb-true}
+use Rattle.laws.specs.Tests.{both}
 use Rattle.octets.specs.Octets.{between}
-
-pub both : (a b : Bool) → (a && b) ≡ true → (a ≡ true) × (b ≡ true)
-both true true e = (refl, refl)
-both true false e = (refl, e)
-both false b e = (e, cc)
 
 module _ (low high b : ℕ) where
   pub inside : low ≤ b → b ≤ high → between low high b ≡ true

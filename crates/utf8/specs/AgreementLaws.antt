@@ -7,7 +7,7 @@ use native.Mathlib.Omega.{arith}
 use lib.Dec.{eqb}
 use lib.IntN.{pos}
 use borrow.Author.Tests.{ne-eqb, eqb-true, eqb-false}
-use Rattle.laws.specs.Still.{Ends}
+use Rattle.laws.specs.Tests.{either, through}
 use Rattle.octets.specs.Octets.{between}
 use Rattle.utf8.specs.declared.Utf8.{Utf8}
 use Rattle.utf8.specs.Standard.{Decoder, variables, initial, Item, end-of-queue, byte, Result, continue, code-point, error, finished, handler, after, Reached, at-start, on}
@@ -20,21 +20,16 @@ data Held : Decoder → Type 0 where
   idle : Held initial
   under-way : {seen needed lower upper : ℕ} → seen < needed → Sound (needs (needed - seen) lower upper) → Held (variables seen needed lower upper)
 
--- what holds of both, holds of the one that a test picks
-either : {A : Type 0} (P : A → Type 0) (t : Bool) {x y : A} → P x → P y → P (cond t x y)
-either P true p q = p
-either P false p q = q
-
 abbrev HeldAfter : Result → Type 0
 HeldAfter r = Held (after r)
 
 held-first : (b : ℕ) → HeldAfter (handler initial (byte b))
 unfolding handler after
 held-first b =
-    either HeldAfter (between 0x00 0x7F b) idle
-    (either HeldAfter (between 0xC2 0xDF b) (under-way {needed = 1} (omega arith) (plain (omega arith)))
-    (either HeldAfter (between 0xE0 0xEF b) (under-way {needed = 2} (omega arith) (cut-range 2 0xA0 0x9F 0xE0 0xED b (omega arith) (omega arith) after-E0 after-ED))
-    (either HeldAfter (between 0xF0 0xF4 b) (under-way {needed = 3} (omega arith) (cut-range 3 0x90 0x8F 0xF0 0xF4 b (omega arith) (omega arith) after-F0 after-F4)) idle)))
+    either HeldAfter (between 0x00 0x7F b) (λ e. idle)
+    (λ e. either HeldAfter (between 0xC2 0xDF b) (λ e. under-way {needed = 1} (omega arith) (plain (omega arith)))
+    (λ e. either HeldAfter (between 0xE0 0xEF b) (λ e. under-way {needed = 2} (omega arith) (cut-range 2 0xA0 0x9F 0xE0 0xED b (omega arith) (omega arith) after-E0 after-ED))
+    (λ e. either HeldAfter (between 0xF0 0xF4 b) (λ e. under-way {needed = 3} (omega arith) (cut-range 3 0x90 0x8F 0xF0 0xF4 b (omega arith) (omega arith) after-F0 after-F4)) (λ e. idle))))
 
 module _ (seen needed lower upper : ℕ) (more : seen < needed) (few : needed - seen ≤ 3) (b : ℕ) where
   -- a byte that is needed
@@ -64,13 +59,9 @@ held at-start = idle
 held (on {d} r b) = held-on d b (held r)
 
 -- ---- a byte
-outcome-cond : (t : Bool) (x y : Result) → outcomeOf (cond t x y) ≡ cond t (outcomeOf x) (outcomeOf y)
-outcome-cond true x y = refl
-outcome-cond false x y = refl
-
 agrees-first : (b : ℕ) → leadOf b ≡ outcomeOf (handler initial (byte b))
 unfolding leadOf handler outcomeOf
-agrees-first b = sym (simp outcome-cond)
+agrees-first b = sym (simp (through outcomeOf))
 
 agrees : (d : Decoder) (b : ℕ) → Held d → stepOf (recordOf d) b ≡ outcomeOf (handler d (byte b))
 unfolding stepOf trailOf

@@ -10,9 +10,10 @@ use lib.ListN.{length}
 use borrow.Author.Tests.{eq-eqb, ne-eqb, eqb-true, le-leb, lt-leb, leb-true, leb-false}
 use Rattle.laws.specs.Lists.{any}
 use Rattle.laws.specs.Run.{Out, none, live, run, run-append}
+use Rattle.laws.specs.Tests.{both, either}
 use Rattle.laws.specs.Still.{Lives, Ends, none-live, run-ends, run-stays}
 use Rattle.octets.specs.Octets.{between, nonAscii}
-use Rattle.octets.specs.BetweenLaws.{both, inside, below, above}
+use Rattle.octets.specs.BetweenLaws.{inside, below, above}
 use Rattle.utf8.specs.declared.Utf8.{Utf8}
 use Rattle.utf8.specs.declared.Ran.{Ran}
 use Rattle.utf8.specs.declared.Ran.the-variants.{Live, Dropped, Unfit}
@@ -118,25 +119,23 @@ cut-range n lo hi k l b apart h p q = at (eqb b k) (eqb b l) refl refl
     at false true e f = q
     at false false e f = plain h
 
-lead-sound : (b : ℕ) → Ends Sound (pos 0) (leadOf b)
+pub fresh-sound : Sound fresh
+fresh-sound = plain {n = 0} (omega arith)
+
+abbrev Kept : Outcome → Type 0
+Kept o = Ends Sound (pos 0) o
+
+lead-sound : (b : ℕ) → Kept (leadOf b)
 unfolding leadOf
 lead-sound b =
-    at (between 0x00 0x7F b) (between 0xC2 0xDF b) (between 0xE0 0xEF b) (between 0xF0 0xF4 b) (plain (omega arith)) (plain (omega arith)) (cut-range 2 0xA0 0x9F 0xE0 0xED b (omega arith) (omega arith) after-E0 after-ED) (cut-range 3 0x90 0x8F 0xF0 0xF4 b (omega arith) (omega arith) after-F0 after-F4)
-  where
-    at : {x y z w : Utf8} (t u v r : Bool) → Sound x → Sound y → Sound z → Sound w → Ends Sound (pos 0) (cond t (alive x) (cond u (alive y) (cond v (alive z) (cond r (alive w) dropped))))
-    at true u v r p q s o = (p, refl)
-    at false true v r p q s o = (q, refl)
-    at false false true r p q s o = (s, refl)
-    at false false false true p q s o = (o, refl)
-    at false false false false p q s o = tt
+    either Kept (between 0x00 0x7F b) (λ e. (fresh-sound, refl))
+    (λ e. either Kept (between 0xC2 0xDF b) (λ e. (plain {n = 1} (omega arith), refl))
+    (λ e. either Kept (between 0xE0 0xEF b) (λ e. (cut-range 2 0xA0 0x9F 0xE0 0xED b (omega arith) (omega arith) after-E0 after-ED, refl))
+    (λ e. either Kept (between 0xF0 0xF4 b) (λ e. (cut-range 3 0x90 0x8F 0xF0 0xF4 b (omega arith) (omega arith) after-F0 after-F4, refl)) (λ e. tt))))
 
-trail-sound : (n lo hi b : ℕ) → n ≤ 4 → Ends Sound (pos 0) (trailOf (needs n lo hi) b)
+trail-sound : (n lo hi b : ℕ) → n ≤ 4 → Kept (trailOf (needs n lo hi) b)
 unfolding trailOf
-trail-sound n lo hi b h = at (between lo hi b)
-  where
-    at : (t : Bool) → Ends Sound (pos 0) (cond t (alive (needs (n - 1) 0x80 0xBF)) dropped)
-    at true = (plain {n = n - 1} (omega arith), refl)
-    at false = tt
+trail-sound n lo hi b h = either Kept (between lo hi b) (λ e. (plain {n = n - 1} (omega arith), refl)) (λ e. tt)
 
 pub most-needed : (m : Utf8) → Sound m → m .need ≤ 3
 most-needed m (plain h) = h
@@ -147,18 +146,11 @@ most-needed m after-F4 = omega arith
 
 pub step-keeps : (m : Utf8) (b : ℕ) → Sound m → Ends Sound (pos 0) (stepOf m b)
 unfolding stepOf
-step-keeps m b s = at (eqb (m .need) 0)
-  where
-    at : (t : Bool) → Ends Sound (pos 0) (cond t (leadOf b) (trailOf m b))
-    at true = lead-sound b
-    at false = trail-sound (m .need) (m .lo) (m .hi) b (omega (arith, most-needed m s))
+step-keeps m b s = either Kept (eqb (m .need) 0) (λ e. lead-sound b) (λ e. trail-sound (m .need) (m .lo) (m .hi) b (omega (arith, most-needed m s)))
 
 -- A stretch keeps what the kind can hold, and ends with the score that it began with, or none.
 pub run-keeps : (m : Utf8) (s : ℤ) (xs : List ℕ) → Sound m → Ends Sound s (run stepOf (live m s) xs)
 run-keeps m s xs h = run-ends stepOf Sound step-keeps s (live m s) xs (h, refl)
-
-pub fresh-sound : Sound fresh
-fresh-sound = plain {n = 0} (omega arith)
 
 -- ---- joining, by the law of every machine
 pub run-joins : (o : Outcome) (xs ys : List ℕ) → run stepOf o (xs ++ ys) ≡ run stepOf (run stepOf o xs) ys

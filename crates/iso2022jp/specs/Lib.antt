@@ -1,0 +1,2 @@
+pub mod Iso2022Jp
+pub mod Standard
