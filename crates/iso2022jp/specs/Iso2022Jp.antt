@@ -9,7 +9,7 @@ use lib.IntN.{pos}
 use lib.ListN.{length, getD}
 use Rattle.laws.specs.Lists.{isIn}
 use Rattle.laws.specs.Run.{Out, none, live, run}
-use Rattle.octets.specs.Octets.{between, nonAscii}
+use Rattle.octets.specs.Octets.{between}
 use Rattle.iso2022jp.specs.declared.DecoderState.{DecoderState}
 use Rattle.iso2022jp.specs.declared.DecoderState.the-variants.{Ascii, Roman, Katakana, LeadByte, TrailByte, EscapeStart, Escape}
 use Rattle.iso2022jp.specs.declared.OutputState.{OutputState}
@@ -92,13 +92,14 @@ started m = holds EscapeStart (m .out) 0 (m .output)
 abbrev pub putOut : DecoderState → Iso2022Jp → Iso2022Jp
 putOut state m = holds state (m .out) 0 false
 
-abbrev pub shifts : ℕ → Bool
-shifts b = eqb b 0x0E || eqb b 0x0F
+-- what ASCII and Roman put out
+unfoldable pub isText : ℕ → Bool
+isText b = between 0x00 0x7F b && not (isIn (0x0E ∷ 0x0F ∷ escapeByte ∷ []) b)
 
 unfoldable pub asciiOf : DecoderState → Iso2022Jp → ℕ → Outcome
 asciiOf state m b =
     cond (eqb b escapeByte) (alive (started m))
-    (cond (shifts b || nonAscii b) dropped (alive (putOut state m)))
+    (cond (isText b) (alive (putOut state m)) dropped)
 
 unfoldable pub katakanaOf : Iso2022Jp → ℕ → Outcome
 katakanaOf m b =
@@ -116,7 +117,9 @@ pairAt lead b = (lead - 0x21) * 94 + (b - 0x21)
 
 unfoldable pub trailOf : List ℕ → Iso2022Jp → ℕ → Outcome
 trailOf index m b =
-    cond (between 0x21 0x7E b && indexedBy index (pairAt (m .lead) b)) (alive (holds LeadByte (m .out) 0 (m .output))) dropped
+    cond (between 0x21 0x7E b)
+    (cond (indexedBy index (pairAt (m .lead) b)) (alive (holds LeadByte (m .out) 0 (m .output))) dropped)
+    dropped
 
 unfoldable pub escapeStartOf : Iso2022Jp → ℕ → Outcome
 escapeStartOf m b = cond (leadsEscape b) (alive (holds Escape (m .out) b (m .output))) dropped
@@ -124,9 +127,10 @@ escapeStartOf m b = cond (leadsEscape b) (alive (holds Escape (m .out) b (m .out
 -- what an escape's two bytes designate
 unfoldable pub designated : ℕ → ℕ → Designated
 designated lead b =
-    cond (eqb lead 0x28)
-    (cond (eqb b 0x42) (To OutAscii) (cond (eqb b 0x4A) (To OutRoman) (cond (eqb b 0x49) (To OutKatakana) Nothing)))
-    (cond (eqb lead 0x24) (cond (eqb b 0x40 || eqb b 0x42) (To OutLeadByte) Nothing) Nothing)
+    cond (eqb lead 0x28 && eqb b 0x42) (To OutAscii)
+    (cond (eqb lead 0x28 && eqb b 0x4A) (To OutRoman)
+    (cond (eqb lead 0x28 && eqb b 0x49) (To OutKatakana)
+    (cond (eqb lead 0x24 && (eqb b 0x40 || eqb b 0x42)) (To OutLeadByte) Nothing)))
 
 unfoldable pub stateOf : OutputState → DecoderState
 stateOf OutAscii = Ascii

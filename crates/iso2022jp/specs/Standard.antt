@@ -63,11 +63,15 @@ to state d = variables state (d .output-state) (d .lead) (d .output)
 abbrev pub quiet : Decoder → Decoder
 quiet d = variables (d .decoder-state) (d .output-state) (d .lead) false
 
+-- 00 to 7F, but not 0E, 0F and 1B
+abbrev pub is-text : ℕ → Bool
+is-text b = between 0x00 0x7F b && not (isIn (0x0E ∷ 0x0F ∷ 0x1B ∷ []) b)
+
 -- ASCII; and Roman, where 5C and 7E give other code points
 abbrev pub in-ascii : Decoder → ℕ → Result
 in-ascii d b =
     cond (eqb b 0x1B) (continue (to escape-start d))
-    (cond (between 0x00 0x7F b && not (isIn (0x0E ∷ 0x0F ∷ 0x1B ∷ []) b)) (code-point (quiet d)) (error (quiet d)))
+    (cond (is-text b) (code-point (quiet d)) (error (quiet d)))
 
 abbrev pub in-katakana : Decoder → ℕ → Result
 in-katakana d b =

@@ -1,40 +1,37 @@
+-- `decoder_state` meets its contract. Assumes nothing.
+use mathlib.Core.Path.{sym, ap}
 use borrow.Author.Needs.{needs}
+use Rattle.iso2022jp.specs.Iso2022Jp.{stateOf}
 use Rattle.iso2022jp.proofs.decoder_state.Statement.{statement}
 use Rattle.iso2022jp.proofs.decoder_state.Tie as tie
-use Rattle.iso2022jp.proofs.decoder_state.Reads as reads
-use Rattle.iso2022jp.proofs.decoder_state.Lts as lts
 
--- src/lib.rt:111:31
 enum-told : tie.Need-enum-told
 enum-told c = search needs
 
--- src/lib.rt:112:31
 enum-told-2 : tie.Need-enum-told-2
 enum-told-2 c = search needs
 
--- src/lib.rt:113:34
 enum-told-3 : tie.Need-enum-told-3
 enum-told-3 c = search needs
 
--- src/lib.rt:114:34
 enum-told-4 : tie.Need-enum-told-4
 enum-told-4 c = search needs
 
--- src/lib.rt:107:1
 returns : tie.Need-returns
-returns c = ?
+unfolding stateOf
+returns c = sym (ap stateOf (c .enum-told .given .1))
 
--- src/lib.rt:107:1
 returns-2 : tie.Need-returns-2
-returns-2 c = ?
+unfolding stateOf
+returns-2 c = sym (ap stateOf (c .enum-told2 .given .1))
 
--- src/lib.rt:107:1
 returns-3 : tie.Need-returns-3
-returns-3 c = ?
+unfolding stateOf
+returns-3 c = sym (ap stateOf (c .enum-told3 .given .1))
 
--- src/lib.rt:107:1
 returns-4 : tie.Need-returns-4
-returns-4 c = ?
+unfolding stateOf
+returns-4 c = sym (ap stateOf (c .enum-told4 .given .1))
 
 pub decoder-state-spec : {M : Type 1} → statement M
 decoder-state-spec =

@@ -1,23 +1,19 @@
+-- `is_mapped` meets its contract. Assumes nothing.
+use Rattle.iso2022jp.specs.Iso2022JpLaws.{mapped-low, mapped-first, mapped-gap, mapped-second}
 use Rattle.iso2022jp.proofs.is_mapped.Statement.{statement}
 use Rattle.iso2022jp.proofs.is_mapped.Tie as tie
-use Rattle.iso2022jp.proofs.is_mapped.Reads as reads
-use Rattle.iso2022jp.proofs.is_mapped.Lts as lts
 
--- src/lib.rt:75:9
 returns : tie.Need-returns
-returns c = ?
+returns c = mapped-low _ (c .if1 .taken)
 
--- src/lib.rt:78:9
 returns-2 : tie.Need-returns-2
-returns-2 c = ?
+returns-2 c = mapped-first _ (c .before .if1 .left) (c .if2 .taken)
 
--- src/lib.rt:81:9
 returns-3 : tie.Need-returns-3
-returns-3 c = ?
+returns-3 c = mapped-gap _ (c .before .if2 .left) (c .if3 .taken)
 
--- src/lib.rt:71:1
 returns-4 : tie.Need-returns-4
-returns-4 c = ?
+returns-4 c = mapped-second _ (c .if3 .left)
 
 pub is-mapped-spec : {M : Type 1} → statement M
 is-mapped-spec = tie.close (tie.spec returns returns-2 returns-3 returns-4)

@@ -1,21 +1,25 @@
+-- `Iso2022Jp::escape_start` meets its contract. Assumes nothing.
+use mathlib.Core.Path.{_≡_, sym, _∙_}
+use mathlib.Core.Bool.{true, false}
 use borrow.Author.Needs.{needs}
+use Rattle.iso2022jp.specs.Iso2022Jp.{leadsEscape, escapeStartOf}
 use Rattle.iso2022jp.proofs.Iso2022Jp.escape_start.Statement.{statement}
 use Rattle.iso2022jp.proofs.Iso2022Jp.escape_start.Tie as tie
-use Rattle.iso2022jp.proofs.Iso2022Jp.escape_start.Reads as reads
-use Rattle.iso2022jp.proofs.Iso2022Jp.escape_start.Lts as lts
-use Rattle.iso2022jp.proofs.is_escape_lead.Reads as is-escape-lead-reads
 
--- src/lib.rt:247:12
 is-escape-lead-requires : tie.Need-is-escape-lead-requires
 is-escape-lead-requires c κs = search needs
 
--- src/lib.rt:249:13
 returns : tie.Need-returns
-returns c = ?
+unfolding escapeStartOf
+returns c =
+    let t : leadsEscape (c .before .before .args .b) ≡ true = sym (c .before .is-escape-lead .ensures) ∙ c .if1 .taken in
+    rw t
 
--- src/lib.rt:244:5
 returns-2 : tie.Need-returns-2
-returns-2 c = ?
+unfolding escapeStartOf
+returns-2 c =
+    let t : leadsEscape (c .before .before .args .b) ≡ false = sym (c .before .is-escape-lead .ensures) ∙ c .if1 .left in
+    rw t
 
 pub escape-start-spec : {M : Type 1} → statement M
 escape-start-spec = tie.close (tie.spec is-escape-lead-requires returns returns-2)

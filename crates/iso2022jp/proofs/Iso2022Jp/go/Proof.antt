@@ -1,54 +1,70 @@
+-- `Iso2022Jp::go` meets its contract. The invariant: the record is one that the kind can hold, and the run from here over what
+-- is left is the run over all. The measure is what is left of the length. Assumes nothing.
+use mathlib.Core.Path.{_≡_, refl, ap, sym, _∙_}
+use Prim.Native.Nat.{_-_, _≤_}
+use native.Mathlib.Omega.{arith}
+use borrow.Author.Needs.{needs}
+use lib.IntN.{pos}
+use lib.ListN.{length, drop, getD, length-drop}
+use Rattle.laws.specs.Run.{run, run-done, turn-live, turn-none}
+use Rattle.iso2022jp.specs.Iso2022Jp.{Sound, alive, outOf, ranAs, stepOf}
+use Rattle.iso2022jp.specs.Iso2022JpLaws.{step-sound}
 use Rattle.iso2022jp.proofs.Iso2022Jp.go.Statement.{statement}
 use Rattle.iso2022jp.proofs.Iso2022Jp.go.Tie as tie
-use Rattle.iso2022jp.proofs.Iso2022Jp.go.Reads as reads
-use Rattle.iso2022jp.proofs.Iso2022Jp.go.Lts as lts
-use Rattle.iso2022jp.proofs.Iso2022Jp.step.Reads as step-reads
 
 abbrev Inv-loop : tie.InvT-loop
-Inv-loop part index m₀ i₀ m i = ?
+Inv-loop part index m₀ i₀ m i =
+    (i ≤ length part) × (Sound m × (run (stepOf index) (alive m) (drop i part) ≡ run (stepOf index) (alive m₀) part))
 
 abbrev μ-loop : tie.MeasureT-loop
-μ-loop part index m₀ i₀ m i = ?
+μ-loop part index m₀ i₀ m i = length part - i
 
--- src/lib.rt:298:9
 loop-holds : tie.Need-loop-holds Inv-loop μ-loop
-loop-holds c = ?
+loop-holds c = (omega arith, (c .before .before .pre .0, refl))
 
--- src/lib.rt:299:47
 shared-slice-read-step : tie.Need-shared-slice-read-step Inv-loop μ-loop
-shared-slice-read-step c = ?
+shared-slice-read-step c = search needs
 
--- src/lib.rt:299:40
 step-requires : tie.Need-step-requires Inv-loop μ-loop
-step-requires c κs = ?
+step-requires c κs =
+    let l = c .before .before in
+    (l .loop .inv .1 .0, l .before .before .before .pre .1)
 
--- src/lib.rt:299:32
 enum-known-next : tie.Need-enum-known-next Inv-loop μ-loop
-enum-known-next c = ?
+enum-known-next c = search needs
 
--- src/lib.rt:300:17
 enum-told : tie.Need-enum-told Inv-loop μ-loop
-enum-told c = ?
+enum-told c = search needs
 
--- src/lib.rt:300:17
 returns : tie.Need-returns Inv-loop μ-loop
-returns c = ?
+unfolding ranAs
+returns c =
+    let t = c .before .before .before .before in
+    let l = t .before in
+    let a = l .before .before .before .args in
+    let e = sym (c .before .before .step .ensures) ∙ ap outOf (c .enum-told .given .1) in
+    ap ranAs (turn-none (stepOf (a .index .now)) (l .loop .m) (pos 0) (a .part .now) (l .loop .i) (t .loop-test .taken) tt e ∙ l .loop .inv .1 .1)
 
--- src/lib.rt:303:13
 add-i : tie.Need-add-i Inv-loop μ-loop
-add-i c = ?
+add-i c = omega arith
 
--- src/lib.rt:298:9
 loop-less : tie.Need-loop-less Inv-loop μ-loop
-loop-less c = ?
+loop-less c = omega arith
 
--- src/lib.rt:298:9
 loop-again : tie.Need-loop-again Inv-loop μ-loop
-loop-again c = ?
+loop-again c =
+    let t = c .before .before .before .before .before in
+    let l = t .before in
+    let a = l .before .before .before .args in
+    let e = sym (c .before .before .before .step .ensures) ∙ ap outOf (c .before .next .given .1) in
+    (omega arith, (step-sound (a .index .now) (l .loop .m) _ (getD (a .part .now) (l .loop .i) 0) (pos 0) e, turn-live (stepOf (a .index .now)) (l .loop .m) (pos 0) (a .part .now) (l .loop .i) (t .loop-test .taken) _ (pos 0) e ∙ l .loop .inv .1 .1))
 
--- src/lib.rt:292:5
 returns-2 : tie.Need-returns-2 Inv-loop μ-loop
-returns-2 c = ?
+unfolding ranAs
+returns-2 c =
+    let l = c .before in
+    let a = l .before .before .before .args in
+    ap ranAs (sym (run-done (stepOf (a .index .now)) (alive (l .loop .m)) (drop (l .loop .i) (a .part .now)) (simp length-drop (omega arith))) ∙ l .loop .inv .1 .1)
 
 pub go-spec : {M : Type 1} → statement M
 go-spec =

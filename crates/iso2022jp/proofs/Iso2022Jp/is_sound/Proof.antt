@@ -1,38 +1,38 @@
+-- `Iso2022Jp::is_sound` meets its contract. Assumes nothing.
+use mathlib.Core.Path.{_≡_, sym, ap, _∙_}
 use borrow.Author.Needs.{needs}
+use Rattle.iso2022jp.specs.declared.DecoderState.{DecoderState}
+use Rattle.iso2022jp.specs.Iso2022Jp.{leadInB}
+use Rattle.iso2022jp.proofs.States.{no-lead}
 use Rattle.iso2022jp.proofs.Iso2022Jp.is_sound.Statement.{statement}
 use Rattle.iso2022jp.proofs.Iso2022Jp.is_sound.Tie as tie
-use Rattle.iso2022jp.proofs.Iso2022Jp.is_sound.Reads as reads
-use Rattle.iso2022jp.proofs.Iso2022Jp.is_sound.Lts as lts
-use Rattle.iso2022jp.proofs.is_between.Reads as is-between-reads
-use Rattle.iso2022jp.proofs.is_escape_lead.Reads as is-escape-lead-reads
 
--- src/lib.rt:143:40
 enum-told : tie.Need-enum-told
 enum-told c = search needs
 
--- src/lib.rt:143:40
 is-between-requires : tie.Need-is-between-requires
 is-between-requires c κs = search needs
 
--- src/lib.rt:144:37
 enum-told-2 : tie.Need-enum-told-2
 enum-told-2 c = search needs
 
--- src/lib.rt:144:37
 is-escape-lead-requires : tie.Need-is-escape-lead-requires
 is-escape-lead-requires c κs = search needs
 
--- src/lib.rt:137:5
 returns : tie.Need-returns
-returns c = ?
+unfolding leadInB
+returns c =
+    let a = c .before .before .before .args in
+    c .is-between .ensures ∙ sym (ap (λ (t : DecoderState). leadInB t (a .self .lead)) (c .before .enum-told .given .1))
 
--- src/lib.rt:137:5
 returns-2 : tie.Need-returns-2
-returns-2 c = ?
+unfolding leadInB
+returns-2 c =
+    let a = c .before .before .before .args in
+    c .is-escape-lead .ensures ∙ sym (ap (λ (t : DecoderState). leadInB t (a .self .lead)) (c .before .enum-told2 .given .1))
 
--- src/lib.rt:137:5
 returns-3 : tie.Need-returns-3
-returns-3 c = ?
+returns-3 c = no-lead (c .before .args .self .state) (c .before .args .self .lead) (c .match .keys3)
 
 pub is-sound-spec : {M : Type 1} → statement M
 is-sound-spec =

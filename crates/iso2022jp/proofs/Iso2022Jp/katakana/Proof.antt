@@ -1,31 +1,38 @@
+-- `Iso2022Jp::katakana` meets its contract. Assumes nothing.
+use mathlib.Core.Path.{_≡_, sym, _∙_}
+use mathlib.Core.Bool.{true, false}
 use borrow.Author.Needs.{needs}
+use borrow.Author.Tests.{eq-eqb, ne-eqb}
+use Rattle.octets.specs.Octets.{between}
+use Rattle.iso2022jp.specs.Iso2022Jp.{katakanaOf}
 use Rattle.iso2022jp.proofs.Iso2022Jp.katakana.Statement.{statement}
 use Rattle.iso2022jp.proofs.Iso2022Jp.katakana.Tie as tie
-use Rattle.iso2022jp.proofs.Iso2022Jp.katakana.Reads as reads
-use Rattle.iso2022jp.proofs.Iso2022Jp.katakana.Lts as lts
-use Rattle.iso2022jp.proofs.Iso2022Jp.start_escape.Reads as start-escape-reads
-use Rattle.iso2022jp.proofs.is_between.Reads as is-between-reads
 
--- src/lib.rt:191:13
 start-escape-requires : tie.Need-start-escape-requires
 start-escape-requires c κs = search needs
 
--- src/lib.rt:191:13
 returns : tie.Need-returns
-returns c = ?
+unfolding katakanaOf
+returns c = rw (eq-eqb _ _ (c .before .if1 .taken)) (c .start-escape .ensures)
 
--- src/lib.rt:193:12
 is-between-requires : tie.Need-is-between-requires
 is-between-requires c κs = search needs
 
--- src/lib.rt:195:13
 returns-2 : tie.Need-returns-2
-returns-2 c = ?
+unfolding katakanaOf
+returns-2 c =
+    let e = c .before .before in
+    let t : between 0x21 0x5F (e .before .args .b) ≡ true = sym (c .before .is-between .ensures) ∙ c .if2 .taken in
+    rw (ne-eqb _ _ (e .if1 .left), t)
 
--- src/lib.rt:187:5
 returns-3 : tie.Need-returns-3
-returns-3 c = ?
+unfolding katakanaOf
+returns-3 c =
+    let e = c .before .before in
+    let t : between 0x21 0x5F (e .before .args .b) ≡ false = sym (c .before .is-between .ensures) ∙ c .if2 .left in
+    rw (ne-eqb _ _ (e .if1 .left), t)
 
 pub katakana-spec : {M : Type 1} → statement M
 katakana-spec =
-    tie.close (tie.spec start-escape-requires returns is-between-requires returns-2 returns-3)
+    tie.close
+    (tie.spec start-escape-requires returns is-between-requires returns-2 returns-3)

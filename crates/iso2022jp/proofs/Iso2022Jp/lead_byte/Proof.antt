@@ -1,31 +1,38 @@
+-- `Iso2022Jp::lead_byte` meets its contract. Assumes nothing.
+use mathlib.Core.Path.{_≡_, sym, _∙_}
+use mathlib.Core.Bool.{true, false}
 use borrow.Author.Needs.{needs}
+use borrow.Author.Tests.{eq-eqb, ne-eqb}
+use Rattle.octets.specs.Octets.{between}
+use Rattle.iso2022jp.specs.Iso2022Jp.{leadOf}
 use Rattle.iso2022jp.proofs.Iso2022Jp.lead_byte.Statement.{statement}
 use Rattle.iso2022jp.proofs.Iso2022Jp.lead_byte.Tie as tie
-use Rattle.iso2022jp.proofs.Iso2022Jp.lead_byte.Reads as reads
-use Rattle.iso2022jp.proofs.Iso2022Jp.lead_byte.Lts as lts
-use Rattle.iso2022jp.proofs.Iso2022Jp.start_escape.Reads as start-escape-reads
-use Rattle.iso2022jp.proofs.is_between.Reads as is-between-reads
 
--- src/lib.rt:209:13
 start-escape-requires : tie.Need-start-escape-requires
 start-escape-requires c κs = search needs
 
--- src/lib.rt:209:13
 returns : tie.Need-returns
-returns c = ?
+unfolding leadOf
+returns c = rw (eq-eqb _ _ (c .before .if1 .taken)) (c .start-escape .ensures)
 
--- src/lib.rt:211:12
 is-between-requires : tie.Need-is-between-requires
 is-between-requires c κs = search needs
 
--- src/lib.rt:213:13
 returns-2 : tie.Need-returns-2
-returns-2 c = ?
+unfolding leadOf
+returns-2 c =
+    let e = c .before .before in
+    let t : between 0x21 0x7E (e .before .args .b) ≡ true = sym (c .before .is-between .ensures) ∙ c .if2 .taken in
+    rw (ne-eqb _ _ (e .if1 .left), t)
 
--- src/lib.rt:205:5
 returns-3 : tie.Need-returns-3
-returns-3 c = ?
+unfolding leadOf
+returns-3 c =
+    let e = c .before .before in
+    let t : between 0x21 0x7E (e .before .args .b) ≡ false = sym (c .before .is-between .ensures) ∙ c .if2 .left in
+    rw (ne-eqb _ _ (e .if1 .left), t)
 
 pub lead-byte-spec : {M : Type 1} → statement M
 lead-byte-spec =
-    tie.close (tie.spec start-escape-requires returns is-between-requires returns-2 returns-3)
+    tie.close
+    (tie.spec start-escape-requires returns is-between-requires returns-2 returns-3)

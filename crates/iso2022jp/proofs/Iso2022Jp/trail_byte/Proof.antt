@@ -1,62 +1,83 @@
+-- `Iso2022Jp::trail_byte` meets its contract. Assumes nothing.
+use mathlib.Core.Path.{_≡_, sym, _∙_}
+use mathlib.Core.Bool.{true, false}
+use Prim.Native.Nat.{ℕ, _≤_}
+use native.Mathlib.Omega.{arith}
 use borrow.Author.Needs.{needs}
+use borrow.Author.Tests.{not-true, not-false}
+use Rattle.octets.specs.Octets.{between}
+use Rattle.octets.specs.BetweenLaws.{between-low, between-high}
+use Rattle.iso2022jp.specs.Iso2022Jp.{indexedBy, pairAt, trailOf}
 use Rattle.iso2022jp.proofs.Iso2022Jp.trail_byte.Statement.{statement}
 use Rattle.iso2022jp.proofs.Iso2022Jp.trail_byte.Tie as tie
-use Rattle.iso2022jp.proofs.Iso2022Jp.trail_byte.Reads as reads
-use Rattle.iso2022jp.proofs.Iso2022Jp.trail_byte.Lts as lts
-use Rattle.iso2022jp.proofs.is_between.Reads as is-between-reads
-use Rattle.iso2022jp.proofs.is_mapped.Reads as is-mapped-reads
 
--- src/lib.rt:228:13
+-- past the first test the byte can be a trail
+module _ (c : tie.Else1) where
+  abbrev byte : ℕ
+  byte = c .before .before .before .args .b
+
+  trails : between 0x21 0x7E byte ≡ true
+  trails = sym (c .before .is-between .ensures) ∙ not-false _ (c .if1 .left)
+
+  low : 0x21 ≤ byte
+  low = between-low 0x21 0x7E byte trails
+
+  high : byte ≤ 0x7E
+  high = between-high 0x21 0x7E byte trails
+
 is-between-requires : tie.Need-is-between-requires
 is-between-requires c κs = search needs
 
--- src/lib.rt:229:13
 returns : tie.Need-returns
-returns c = ?
+unfolding trailOf
+returns c =
+    let t : between 0x21 0x7E (c .before .before .before .args .b) ≡ false = sym (c .before .is-between .ensures) ∙ not-true _ (c .if1 .taken) in
+    rw t
 
--- src/lib.rt:231:19
 sub-at : tie.Need-sub-at
 sub-at c = search needs
 
--- src/lib.rt:231:18
 cast-at : tie.Need-cast-at
 cast-at c = search needs
 
--- src/lib.rt:231:18
 mul-at : tie.Need-mul-at
 mul-at c = search needs
 
--- src/lib.rt:231:54
 sub-at-2 : tie.Need-sub-at-2
-sub-at-2 c = ?
+sub-at-2 c = omega (arith, low (c .before))
 
--- src/lib.rt:231:53
 cast-at-2 : tie.Need-cast-at-2
 cast-at-2 c = search needs
 
--- src/lib.rt:231:18
 add-at : tie.Need-add-at
 add-at c = search needs
 
--- src/lib.rt:232:22
 mul-is-mapped : tie.Need-mul-is-mapped
 mul-is-mapped c = search needs
 
--- src/lib.rt:232:22
 shared-slice-read-is-mapped : tie.Need-shared-slice-read-is-mapped
-shared-slice-read-is-mapped c = ?
+shared-slice-read-is-mapped c =
+    let e = c .before .before in
+    omega (arith, low e, high e, e .before .before .before .pre)
 
--- src/lib.rt:232:12
 is-mapped-requires : tie.Need-is-mapped-requires
 is-mapped-requires c κs = search needs
 
--- src/lib.rt:234:13
 returns-2 : tie.Need-returns-2
-returns-2 c = ?
+unfolding trailOf
+returns-2 c =
+    let e = c .before .before .before .before in
+    let a = e .before .before .before .args in
+    let t : indexedBy (a .index .now) (pairAt (a .self .lead) (a .b)) ≡ true = sym (c .before .is-mapped .ensures) ∙ c .if2 .taken in
+    rw (trails e, t)
 
--- src/lib.rt:224:5
 returns-3 : tie.Need-returns-3
-returns-3 c = ?
+unfolding trailOf
+returns-3 c =
+    let e = c .before .before .before .before in
+    let a = e .before .before .before .args in
+    let t : indexedBy (a .index .now) (pairAt (a .self .lead) (a .b)) ≡ false = sym (c .before .is-mapped .ensures) ∙ c .if2 .left in
+    rw (trails e, t)
 
 pub trail-byte-spec : {M : Type 1} → statement M
 trail-byte-spec =
