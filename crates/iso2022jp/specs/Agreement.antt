@@ -5,8 +5,9 @@ use Rattle.iso2022jp.specs.declared.DecoderState.the-variants.{Ascii, Ro
 use Rattle.iso2022jp.specs.declared.OutputState.{OutputState as MachineOutput}
 use Rattle.iso2022jp.specs.declared.OutputState.the-variants.{Ascii as OutAscii, Roman as OutRoman, Katakana as OutKatakana, LeadByte as OutLeadByte}
 use Rattle.iso2022jp.specs.declared.Iso2022Jp.{Iso2022Jp}
-use Rattle.iso2022jp.specs.Standard.{DecoderState, ascii, roman, katakana, lead-byte, trail-byte, escape-start, escape, OutputState, out-ascii, out-roman, out-katakana, out-lead-byte, Decoder, Result, continue, code-point, error, finished}
-use Rattle.iso2022jp.specs.Iso2022Jp.{Outcome, holds, alive, dropped}
+use Rattle.laws.specs.Validator.{Result, outcomeBy}
+use Rattle.iso2022jp.specs.Standard.{DecoderState, ascii, roman, katakana, lead-byte, trail-byte, escape-start, escape, OutputState, out-ascii, out-roman, out-katakana, out-lead-byte, Decoder}
+use Rattle.iso2022jp.specs.Iso2022Jp.{Outcome, holds}
 
 abbrev pub decoderState : DecoderState → MachineState
 decoderState ascii = Ascii
@@ -36,9 +37,5 @@ pendingLead escape lead = lead
 abbrev pub recordOf : Decoder → Iso2022Jp
 recordOf d = holds (decoderState (d .decoder-state)) (outputState (d .output-state)) (pendingLead (d .decoder-state) (d .lead)) (d .output)
 
--- an error drops the machine out; all else leaves it alive, with its score as it was
-unfoldable pub outcomeOf : Result → Outcome
-outcomeOf (continue d) = alive (recordOf d)
-outcomeOf (code-point d) = alive (recordOf d)
-outcomeOf (error d) = dropped
-outcomeOf (finished d) = alive (recordOf d)
+abbrev pub outcomeOf : Result Decoder → Outcome
+outcomeOf r = outcomeBy recordOf r

@@ -9,6 +9,9 @@ use native.Mathlib.Omega.{arith}
 use lib.Dec.{eqb}
 use borrow.Author.Tests.{eqb-true}
 use Rattle.laws.specs.Tests.{either, through}
+use Rattle.laws.specs.Validator.{Item, end-of-queue, byte, Result, continue, code-point, error, finished, after, at-start, on, outcomeBy, decoded, decodes}
+use Rattle.laws.specs.Run.{run}
+use Rattle.laws.specs.Still.{ended}
 use Rattle.octets.specs.Octets.{between}
 use Rattle.octets.specs.BetweenLaws.{below, between-low, between-high}
 use Rattle.iso2022jp.specs.declared.DecoderState.{DecoderState as MachineState}
@@ -16,7 +19,7 @@ use Rattle.iso2022jp.specs.declared.DecoderState.the-variants.{LeadByte}
 use Rattle.iso2022jp.specs.declared.OutputState.{OutputState as MachineOutput}
 use Rattle.iso2022jp.specs.declared.Designated.{Designated}
 use Rattle.iso2022jp.specs.declared.Designated.the-variants.{To, Nothing}
-use Rattle.iso2022jp.specs.Standard.{DecoderState, ascii, roman, katakana, lead-byte, trail-byte, escape-start, escape, OutputState, out-ascii, out-roman, out-katakana, out-lead-byte, as-state, Decoder, variables, initial, Item, end-of-queue, byte, Result, continue, code-point, error, finished, is-text, to, pointer, Set, null, state, set-by, after-set, in-escape, on-byte, on-end, handler, after, Reached, at-start, on}
+use Rattle.iso2022jp.specs.Standard.{DecoderState, ascii, roman, katakana, lead-byte, trail-byte, escape-start, escape, OutputState, out-ascii, out-roman, out-katakana, out-lead-byte, as-state, Decoder, variables, initial, is-text, to, pointer, Set, null, state, set-by, after-set, in-escape, on-byte, on-end, handler, Reached}
 use Rattle.iso2022jp.specs.Iso2022Jp.{Outcome, holds, fresh, Sound, leadsEscape, indexedBy, alive, dropped, escapeByte, isText, asciiOf, katakanaOf, leadOf, pairAt, trailOf, escapeStartOf, designated, stateOf, escapedTo, escapeOf, stepIn, stepOf, closeIn, closeOf}
 use Rattle.iso2022jp.specs.Iso2022JpLaws.{escape-lead}
 use Rattle.iso2022jp.specs.Agreement.{decoderState, outputState, pendingLead, recordOf, outcomeOf}
@@ -36,23 +39,23 @@ module _ (index : List ℕ) (out : OutputState) (lead : ℕ) (output : Bool) (b 
   Agrees st = stepOf index (recordOf (variables st out lead output)) b ≡ outcomeOf (handler (indexedBy index) (variables st out lead output) (byte b))
 
   in-ascii-agrees : Agrees ascii
-  unfolding stepIn asciiOf isText handler on-byte outcomeOf
+  unfolding stepIn asciiOf isText handler on-byte outcomeBy
   in-ascii-agrees = sym (simp (through outcomeOf))
 
   in-roman-agrees : Agrees roman
-  unfolding stepIn asciiOf isText handler on-byte outcomeOf
+  unfolding stepIn asciiOf isText handler on-byte outcomeBy
   in-roman-agrees = sym (simp (through outcomeOf))
 
   in-katakana-agrees : Agrees katakana
-  unfolding stepIn katakanaOf handler on-byte outcomeOf
+  unfolding stepIn katakanaOf handler on-byte outcomeBy
   in-katakana-agrees = sym (simp (through outcomeOf))
 
   in-lead-byte-agrees : Agrees lead-byte
-  unfolding stepIn leadOf handler on-byte outcomeOf
+  unfolding stepIn leadOf handler on-byte outcomeBy
   in-lead-byte-agrees = sym (simp (through outcomeOf))
 
   in-escape-start-agrees : Agrees escape-start
-  unfolding stepIn escapeStartOf handler on-byte outcomeOf
+  unfolding stepIn escapeStartOf handler on-byte outcomeBy
   in-escape-start-agrees = sym (simp (through outcomeOf))
 
   -- where the byte can be a trail, the two pointers are one
@@ -65,11 +68,11 @@ module _ (index : List ℕ) (out : OutputState) (lead : ℕ) (output : Bool) (b 
   trail-at false e = same-pointer (between 0x21 0x7E b) refl
 
   in-trail-byte-agrees : Agrees trail-byte
-  unfolding stepIn trailOf handler on-byte outcomeOf
+  unfolding stepIn trailOf handler on-byte outcomeBy
   in-trail-byte-agrees = trail-at (eqb b 0x1B) refl ∙ sym (simp (through outcomeOf))
 
   escaped : (s : Set) (t : Bool) → escapedTo t (designation s) ≡ outcomeOf (after-set (variables escape out lead t) s)
-  unfolding escapedTo stateOf after-set outcomeOf
+  unfolding escapedTo stateOf after-set outcomeBy
   escaped null t = refl
   escaped (state out-ascii) true = refl
   escaped (state out-ascii) false = refl
@@ -99,7 +102,7 @@ step-agrees index d b = agrees index (d .output-state) (d .lead) (d .output) b (
 
 -- ---- the end
 closes : (st : DecoderState) (out : OutputState) (lead : ℕ) (output : Bool) → closeOf (recordOf (variables st out lead output)) ≡ outcomeOf (on-end st (variables st out lead output))
-unfolding closeIn on-end outcomeOf
+unfolding closeIn on-end outcomeBy
 closes ascii out lead output = refl
 closes roman out lead output = refl
 closes katakana out lead output = refl
@@ -116,6 +119,11 @@ close-agrees index d = closes (d .decoder-state) (d .output-state) (d .lead) (d 
 pub fresh-agrees : fresh ≡ recordOf initial
 fresh-agrees = refl
 
+-- Over a whole stream, closed, the machine is what the Standard's decoder is up to its first error.
+pub stream-agrees : (index : List ℕ) (xs : List ℕ) → ended closeOf (run (stepOf index) (alive fresh) xs) ≡ outcomeOf (decoded (handler (indexedBy index)) initial xs)
+stream-agrees index xs =
+    decodes (handler (indexedBy index)) initial recordOf (stepOf index) closeOf (λ (d : Decoder) (r : Reached (indexedBy index) d). (λ (b : ℕ). step-agrees index d b, close-agrees index d)) initial xs at-start
+
 -- ---- what the decoder can reach, the kind can hold
 abbrev HeldLead : DecoderState → ℕ → Type 0
 HeldLead ascii lead = Unit {0}
@@ -126,7 +134,7 @@ HeldLead trail-byte lead = (0x21 ≤ lead) × (lead ≤ 0x7E)
 HeldLead escape-start lead = Unit {0}
 HeldLead escape lead = (lead ≡ 0x24) ⊎ (lead ≡ 0x28)
 
-abbrev Held : Result → Type 0
+abbrev Held : Result Decoder → Type 0
 Held r = HeldLead (after r .decoder-state) (after r .lead)
 
 as-held : (o : OutputState) (lead : ℕ) → HeldLead (as-state o) lead
@@ -154,10 +162,10 @@ module _ (indexed : ℕ → Bool) (out : OutputState) (lead : ℕ) (output : Boo
   held escape-start = either Held (leadsEscape b) (λ e. escape-lead b e) (λ e. as-held out lead)
   held escape = set-held (set-by lead b)
 
-reached-held : {indexed : ℕ → Bool} {d : Decoder} → Reached indexed d → HeldLead (d .decoder-state) (d .lead)
+reached-held : (indexed : ℕ → Bool) {d : Decoder} → Reached indexed d → HeldLead (d .decoder-state) (d .lead)
 unfolding handler
-reached-held at-start = tt
-reached-held {indexed} (on {d} r b) = held indexed (d .output-state) (d .lead) (d .output) b (d .decoder-state)
+reached-held indexed at-start = tt
+reached-held indexed (on {d} r b) = held indexed (d .output-state) (d .lead) (d .output) b (d .decoder-state)
 
 held-sound : (st : DecoderState) (out : OutputState) (lead : ℕ) (output : Bool) → HeldLead st lead → Sound (recordOf (variables st out lead output))
 held-sound ascii out lead output h = refl
@@ -168,5 +176,5 @@ held-sound trail-byte out lead output h = h
 held-sound escape-start out lead output h = refl
 held-sound escape out lead output h = h
 
-pub reached-sound : {indexed : ℕ → Bool} {d : Decoder} → Reached indexed d → Sound (recordOf d)
-reached-sound {d} r = held-sound (d .decoder-state) (d .output-state) (d .lead) (d .output) (reached-held r)
+pub reached-sound : (indexed : ℕ → Bool) {d : Decoder} → Reached indexed d → Sound (recordOf d)
+reached-sound indexed {d} r = held-sound (d .decoder-state) (d .output-state) (d .lead) (d .output) (reached-held indexed r)

@@ -208,18 +208,22 @@ module _ (index : List ℕ) (m : Iso2022Jp) (xs : List ℕ) where
   unfolding ranOf
   ran-ready r = rw (ready-true r)
 
+  pub ran-unfit : readyB index m xs ≡ false → Unfit ≡ ranOf index m xs
+  unfolding ranOf
+  ran-unfit e = rw e
+
   -- each way through the code
   pub ran-unsound : soundB m ≡ false → Unfit ≡ ranOf index m xs
-  unfolding ranOf readyB
-  ran-unsound e = rw e
+  unfolding readyB
+  ran-unsound e = ran-unfit (rw e)
 
   pub ran-unsized : (length index ≡ entries → ⊥) → Unfit ≡ ranOf index m xs
-  unfolding ranOf readyB
-  ran-unsized e = rw (ne-eqb _ _ e, and-false)
+  unfolding readyB
+  ran-unsized e = ran-unfit (rw (ne-eqb _ _ e, and-false))
 
   pub ran-long : most < length xs → Unfit ≡ ranOf index m xs
-  unfolding ranOf readyB
-  ran-long h = rw (lt-leb _ _ h, and-false, and-false)
+  unfolding readyB
+  ran-long h = ran-unfit (rw (lt-leb _ _ h, and-false, and-false))
 
 pub closed-ready : (m : Iso2022Jp) → Sound m → closedOf m ≡ ranAs (closeOf m)
 unfolding closedOf

@@ -5,6 +5,7 @@ use mathlib.Core.List.{List, [], _∷_}
 use Prim.Native.Nat.{ℕ, _+_, _-_, _*_}
 use lib.Dec.{eqb}
 use Rattle.laws.specs.Lists.{isIn}
+use Rattle.laws.specs.Validator.{Item, end-of-queue, byte, Result, continue, code-point, error, finished, ReachedBy}
 use Rattle.octets.specs.Octets.{between}
 
 pub data DecoderState : Type 0 where
@@ -43,18 +44,6 @@ variables state out lead output = record { decoder-state = state; output-state =
 abbrev pub initial : Decoder
 initial = variables ascii out-ascii 0 false
 
--- what is read from the queue
-pub data Item : Type 0 where
-  end-of-queue : Item
-  byte : ℕ → Item
-
--- what the decoder returns, with its variables as it leaves them
-pub data Result : Type 0 where
-  continue : Decoder → Result
-  code-point : Decoder → Result
-  error : Decoder → Result
-  finished : Decoder → Result
-
 -- decoder state is set
 abbrev pub to : DecoderState → Decoder → Decoder
 to state d = variables state (d .output-state) (d .lead) (d .output)
@@ -68,17 +57,17 @@ abbrev pub is-text : ℕ → Bool
 is-text b = between 0x00 0x7F b && not (isIn (0x0E ∷ 0x0F ∷ 0x1B ∷ []) b)
 
 -- ASCII; and Roman, where 5C and 7E give other code points
-abbrev pub in-ascii : Decoder → ℕ → Result
+abbrev pub in-ascii : Decoder → ℕ → Result Decoder
 in-ascii d b =
     cond (eqb b 0x1B) (continue (to escape-start d))
     (cond (is-text b) (code-point (quiet d)) (error (quiet d)))
 
-abbrev pub in-katakana : Decoder → ℕ → Result
+abbrev pub in-katakana : Decoder → ℕ → Result Decoder
 in-katakana d b =
     cond (eqb b 0x1B) (continue (to escape-start d))
     (cond (between 0x21 0x5F b) (code-point (quiet d)) (error (quiet d)))
 
-abbrev pub in-lead-byte : Decoder → ℕ → Result
+abbrev pub in-lead-byte : Decoder → ℕ → Result Decoder
 in-lead-byte d b =
     cond (eqb b 0x1B) (continue (to escape-start d))
     (cond (between 0x21 0x7E b) (continue (variables trail-byte (d .output-state) b false)) (error (quiet d)))
@@ -88,7 +77,7 @@ abbrev pub pointer : ℕ → ℕ → ℕ
 pointer lead b = (lead - 0x21) * 94 + b - 0x21
 
 -- indexed: whether the index has a code point at a pointer
-abbrev pub in-trail-byte : (ℕ → Bool) → Decoder → ℕ → Result
+abbrev pub in-trail-byte : (ℕ → Bool) → Decoder → ℕ → Result Decoder
 in-trail-byte indexed d b =
     cond (eqb b 0x1B) (error (to escape-start d))
     (cond (between 0x21 0x7E b)
@@ -96,10 +85,10 @@ in-trail-byte indexed d b =
     (error (to lead-byte d)))
 
 -- an escape that is none: output false, decoder state is the output state
-abbrev pub no-escape : Decoder → Result
+abbrev pub no-escape : Decoder → Result Decoder
 no-escape d = error (variables (as-state (d .output-state)) (d .output-state) (d .lead) false)
 
-abbrev pub in-escape-start : Decoder → ℕ → Result
+abbrev pub in-escape-start : Decoder → ℕ → Result Decoder
 in-escape-start d b =
     cond (eqb b 0x24 || eqb b 0x28) (continue (variables escape (d .output-state) b (d .output)))
     (no-escape d)
@@ -117,15 +106,15 @@ set-by lead b =
     (cond (eqb lead 0x24 && (eqb b 0x40 || eqb b 0x42)) (state out-lead-byte) null)))
 
 -- lead becomes 0. A state that is set: decoder state and output state become it, output becomes true, and it is an error if output was true
-unfoldable pub after-set : Decoder → Set → Result
+unfoldable pub after-set : Decoder → Set → Result Decoder
 after-set d null = no-escape (variables (d .decoder-state) (d .output-state) 0 (d .output))
 after-set d (state o) = cond (d .output) (error (variables (as-state o) o 0 true)) (continue (variables (as-state o) o 0 true))
 
-abbrev pub in-escape : Decoder → ℕ → Result
+abbrev pub in-escape : Decoder → ℕ → Result Decoder
 in-escape d b = after-set d (set-by (d .lead) b)
 
 -- a byte, by decoder state
-unfoldable pub on-byte : (ℕ → Bool) → DecoderState → Decoder → ℕ → Result
+unfoldable pub on-byte : (ℕ → Bool) → DecoderState → Decoder → ℕ → Result Decoder
 on-byte indexed ascii d b = in-ascii d b
 on-byte indexed roman d b = in-ascii d b
 on-byte indexed katakana d b = in-katakana d b
@@ -135,7 +124,7 @@ on-byte indexed escape-start d b = in-escape-start d b
 on-byte indexed escape d b = in-escape d b
 
 -- the end, by decoder state
-unfoldable pub on-end : DecoderState → Decoder → Result
+unfoldable pub on-end : DecoderState → Decoder → Result Decoder
 on-end ascii d = finished d
 on-end roman d = finished d
 on-end katakana d = finished d
@@ -144,18 +133,10 @@ on-end trail-byte d = error (to lead-byte d)
 on-end escape-start d = no-escape d
 on-end escape d = no-escape (variables (d .decoder-state) (d .output-state) 0 (d .output))
 
-unfoldable pub handler : (ℕ → Bool) → Decoder → Item → Result
+unfoldable pub handler : (ℕ → Bool) → Decoder → Item → Result Decoder
 handler indexed d end-of-queue = on-end (d .decoder-state) d
 handler indexed d (byte b) = on-byte indexed (d .decoder-state) d b
 
--- the variables after a result
-unfoldable pub after : Result → Decoder
-after (continue d) = d
-after (code-point d) = d
-after (error d) = d
-after (finished d) = d
-
--- what the variables can be: the initial ones, and those after any byte, error or not, from ones that they can be
-pub data Reached (indexed : ℕ → Bool) : Decoder → Type 0 where
-  at-start : Reached indexed initial
-  on : {d : Decoder} → Reached indexed d → (b : ℕ) → Reached indexed (after (handler indexed d (byte b)))
+-- what the variables can be
+abbrev pub Reached : (ℕ → Bool) → Decoder → Type 0
+Reached indexed d = ReachedBy (handler indexed) initial d

@@ -7,3 +7,4 @@ pub mod Sizes
 pub mod Still
 pub mod Table
 pub mod Tests
+pub mod Validator

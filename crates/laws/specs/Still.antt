@@ -4,7 +4,7 @@ use mathlib.Core.Bool.{Bool, false}
 use mathlib.Core.List.{List, [], _∷_, _++_}
 use Prim.Native.Nat.{ℕ}
 use native.Mathlib.Omega.{arith}
-use lib.IntN.{ℤ, pos, _+ℤ_, +ℤ-idr}
+use lib.IntN.{ℤ, pos, _+ℤ_, +ℤ-idl, +ℤ-idr}
 use Rattle.laws.specs.Lists.{any}
 use Rattle.laws.specs.Tests.{neither}
 use Rattle.laws.specs.Run.{Out, none, live, plus, feed, run, run-append, run-none, run-plus}
@@ -21,6 +21,11 @@ plus-ends : {D S : Type 0} (P : S → Type 0) (s : ℤ) (o : Out D S) → Ends P
 unfolding plus
 plus-ends P s (none d) q = tt
 plus-ends P s (live m t) q = (q .0, ap (λ (z : ℤ). s +ℤ z) (q .1) ∙ +ℤ-idr s)
+
+pub plus-zero : {D S : Type 0} (o : Out D S) → plus (pos 0) o ≡ o
+unfolding plus
+plus-zero (none d) = refl
+plus-zero (live m s) = ap (live m) (+ℤ-idl s)
 
 module _ {D S : Type 0} (step : S → ℕ → Out D S) where
   -- ---- a step that keeps P and changes no score: so does a run

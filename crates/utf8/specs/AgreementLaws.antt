@@ -2,15 +2,19 @@
 -- Assumes nothing.
 use mathlib.Core.Path.{_≡_, refl, sym, ap, _∙_}
 use mathlib.Core.Bool.{Bool, true, false, cond}
+use mathlib.Core.List.{List}
 use Prim.Native.Nat.{ℕ, zero, suc, _+_, _-_, _<_, _≤_}
 use native.Mathlib.Omega.{arith}
 use lib.Dec.{eqb}
 use lib.IntN.{pos}
 use borrow.Author.Tests.{ne-eqb, eqb-true, eqb-false}
 use Rattle.laws.specs.Tests.{either, through}
+use Rattle.laws.specs.Validator.{Item, end-of-queue, byte, Result, continue, code-point, error, finished, after, at-start, on, outcomeBy, decoded, decodes}
+use Rattle.laws.specs.Run.{run}
+use Rattle.laws.specs.Still.{ended}
 use Rattle.octets.specs.Octets.{between}
 use Rattle.utf8.specs.declared.Utf8.{Utf8}
-use Rattle.utf8.specs.Standard.{Decoder, variables, initial, Item, end-of-queue, byte, Result, continue, code-point, error, finished, handler, after, Reached, at-start, on}
+use Rattle.utf8.specs.Standard.{Decoder, variables, initial, handler, Reached}
 use Rattle.utf8.specs.Utf8.{Outcome, needs, fresh, Sound, plain, after-E0, after-ED, after-F0, after-F4, alive, dropped, leadOf, trailOf, stepOf, closeOf}
 use Rattle.utf8.specs.Utf8Laws.{cut-range, most-needed, fresh-sound}
 use Rattle.utf8.specs.Agreement.{recordOf, outcomeOf}
@@ -20,7 +24,7 @@ data Held : Decoder → Type 0 where
   idle : Held initial
   under-way : {seen needed lower upper : ℕ} → seen < needed → Sound (needs (needed - seen) lower upper) → Held (variables seen needed lower upper)
 
-abbrev HeldAfter : Result → Type 0
+abbrev HeldAfter : Result Decoder → Type 0
 HeldAfter r = Held (after r)
 
 held-first : (b : ℕ) → HeldAfter (handler initial (byte b))
@@ -44,7 +48,7 @@ module _ (seen needed lower upper : ℕ) (more : seen < needed) (few : needed - 
   held-next false u e = idle
 
   agrees-next : (t u : Bool) → eqb (seen + 1) needed ≡ u → cond t (alive (needs (needed - seen - 1) 0x80 0xBF)) dropped ≡ outcomeOf (cond t (cond u (code-point initial) (continue (variables (seen + 1) needed 0x80 0xBF))) (error initial))
-  unfolding outcomeOf
+  unfolding outcomeBy
   agrees-next true true e = let n : needed - seen - 1 ≡ 0 = omega (arith, eqb-true (seen + 1) needed e) in rw n
   agrees-next true false e = let n : needed - seen - 1 ≡ needed - (seen + 1) = omega arith in rw n
   agrees-next false u e = refl
@@ -60,7 +64,7 @@ held (on {d} r b) = held-on d b (held r)
 
 -- ---- a byte
 agrees-first : (b : ℕ) → leadOf b ≡ outcomeOf (handler initial (byte b))
-unfolding leadOf handler outcomeOf
+unfolding leadOf handler outcomeBy
 agrees-first b = sym (simp (through outcomeOf))
 
 agrees : (d : Decoder) (b : ℕ) → Held d → stepOf (recordOf d) b ≡ outcomeOf (handler d (byte b))
@@ -75,7 +79,7 @@ step-agrees d b r = agrees d b (held r)
 
 -- ---- the end
 closes : (d : Decoder) → Held d → closeOf (recordOf d) ≡ outcomeOf (handler d end-of-queue)
-unfolding closeOf handler outcomeOf
+unfolding closeOf handler outcomeBy
 closes d idle = refl
 closes d (under-way {seen} {needed} h s) =
     rw (ne-eqb (needed - seen) 0 (λ (e : needed - seen ≡ 0). omega arith), ne-eqb needed 0 (λ (e : needed ≡ 0). omega arith))
@@ -86,6 +90,10 @@ close-agrees d r = closes d (held r)
 
 pub fresh-agrees : fresh ≡ recordOf initial
 fresh-agrees = refl
+
+-- Over a whole stream, closed, the machine is what the Standard's decoder is up to its first error.
+pub stream-agrees : (xs : List ℕ) → ended closeOf (run stepOf (alive fresh) xs) ≡ outcomeOf (decoded handler initial xs)
+stream-agrees xs = decodes handler initial recordOf stepOf closeOf (λ (d : Decoder) (r : Reached d). (λ (b : ℕ). step-agrees d b r, close-agrees d r)) initial xs at-start
 
 -- ---- what the kind can hold is what the decoder can reach
 held-sound : {d : Decoder} → Held d → Sound (recordOf d)

@@ -185,18 +185,18 @@ module _ (m : Utf8) (xs : List ℕ) where
   unfolding ranOf
   ran-ready r = rw (ready-true r)
 
-  -- each way through the code
-  pub ran-fit : soundB m ≡ true → length xs ≤ most → ranAs (run stepOf (alive m) xs) ≡ ranOf m xs
-  unfolding ranOf readyB
-  ran-fit e h = rw (e, le-leb _ _ h)
+  pub ran-unfit : readyB m xs ≡ false → Unfit ≡ ranOf m xs
+  unfolding ranOf
+  ran-unfit e = rw e
 
+  -- each way through the code
   pub ran-unsound : soundB m ≡ false → Unfit ≡ ranOf m xs
-  unfolding ranOf readyB
-  ran-unsound e = rw e
+  unfolding readyB
+  ran-unsound e = ran-unfit (rw e)
 
   pub ran-long : most < length xs → Unfit ≡ ranOf m xs
-  unfolding ranOf readyB
-  ran-long h = rw (lt-leb _ _ h, and-false)
+  unfolding readyB
+  ran-long h = ran-unfit (rw (lt-leb _ _ h, and-false))
 
 module _ (m : Utf8) where
   pub closed-ready : Sound m → closedOf m ≡ ranAs (closeOf m)

@@ -12,12 +12,16 @@ use lib.ListN.{length}
 use borrow.Author.Tests.{ltb-true, ltb-false}
 use Rattle.laws.specs.Run.{Out, none, live, plus, run, run-append, run-nil}
 use Rattle.laws.specs.Still.{Lives, lives, lives-begun, from-zero, run-first, run-drops, none-live, plus-live, ended, ended-live}
+use Rattle.laws.specs.Validator.{decoded}
 use Rattle.laws.specs.Table.{and-left, and-right, every, nothing, within}
 use Rattle.octets.specs.Octets.{between}
 use Rattle.octets.specs.BetweenLaws.{inside, between-low, between-high}
 use Rattle.utf8.specs.declared.Utf8.{Utf8}
 use Rattle.utf8.specs.WellFormed.{Range, _to_, Row, table, Fits, FitsOne, WellFormed, Text, empty, then, Cut, Streams}
 use Rattle.utf8.specs.Utf8.{Outcome, needs, fresh, alive, dropped, leadOf, trailOf, stepOf, closeOf}
+use Rattle.utf8.specs.Standard.{initial, handler}
+use Rattle.utf8.specs.Agreement.{outcomeOf}
+use Rattle.utf8.specs.AgreementLaws.{stream-agrees}
 use Rattle.utf8.specs.Utf8Laws.{step-lead, step-within, step-outside, lead-late, close-whole}
 
 -- ---- the record that waits for the rest of a row
@@ -313,3 +317,11 @@ module _ (s : ℤ) (xs : List ℕ) where
       let t = r .streams in
       let e : t .sequences ≡ xs = sym (t .parts ∙ (ap (λ (y : List ℕ). t .sequences ++ y) (r .closed (close-whole (o .0) (o .1 .1 .1))) ∙ append-nil (t .sequences))) in
       subst Text e (t .text)
+
+-- ---- so for the Standard's decoder over a whole stream: no error exactly if the bytes are whole well-formed sequences
+module _ (xs : List ℕ) where
+  pub text-decoded : Text xs → outcomeOf (decoded handler initial xs) ≡ alive fresh
+  text-decoded t = sym (stream-agrees xs) ∙ text-closes (pos 0) xs t
+
+  pub decoded-text : Lives (outcomeOf (decoded handler initial xs)) → Text xs
+  decoded-text l = closes-text (pos 0) xs (rw (← stream-agrees xs) at l)

@@ -1,7 +1,7 @@
 -- `Utf8::run` meets its contract. Assumes nothing.
 use mathlib.Core.Path.{_≡_, sym, _∙_}
 use borrow.Author.Needs.{needs}
-use Rattle.utf8.specs.Utf8Laws.{ran-fit, ran-unsound, ran-long}
+use Rattle.utf8.specs.Utf8Laws.{true-sound, ran-ready, ran-unsound, ran-long}
 use Rattle.utf8.proofs.Utf8.run.Statement.{statement}
 use Rattle.utf8.proofs.Utf8.run.Tie as tie
 
@@ -15,7 +15,8 @@ returns : tie.Need-returns
 returns c =
     let t = c .before .before in
     let a = t .before .before .before .args in
-    c .go .ensures ∙ ran-fit (a .self) (a .part .now) (sym (t .before .is-sound .ensures) ∙ t .if1 .taken) (c .before .if2 .taken)
+    let o = true-sound (a .self) (sym (t .before .is-sound .ensures) ∙ t .if1 .taken) in
+    c .go .ensures ∙ sym (ran-ready (a .self) (a .part .now) (record { sound = o; short = c .before .if2 .taken }))
 
 returns-2 : tie.Need-returns-2
 returns-2 c =
