@@ -20,7 +20,7 @@ use Rattle.iso2022jp.specs.declared.OutputState.{OutputState as MachineO
 use Rattle.iso2022jp.specs.declared.Designated.{Designated}
 use Rattle.iso2022jp.specs.declared.Designated.the-variants.{To, Nothing}
 use Rattle.iso2022jp.specs.Standard.{DecoderState, ascii, roman, katakana, lead-byte, trail-byte, escape-start, escape, OutputState, out-ascii, out-roman, out-katakana, out-lead-byte, as-state, Decoder, variables, initial, is-text, to, pointer, Set, null, state, set-by, after-set, in-escape, on-byte, on-end, handler, Reached}
-use Rattle.iso2022jp.specs.Iso2022Jp.{Outcome, holds, fresh, Sound, leadsEscape, indexedBy, alive, dropped, escapeByte, isText, asciiOf, katakanaOf, leadOf, pairAt, trailOf, escapeStartOf, designated, stateOf, escapedTo, escapeOf, stepIn, stepOf, closeIn, closeOf}
+use Rattle.iso2022jp.specs.Iso2022Jp.{Outcome, holds, fresh, Sound, leadsEscape, indexedBy, alive, dropped, escapeByte, isText, asciiOf, rangedOf, pairAt, trailOf, escapeStartOf, designated, stateOf, escapedTo, escapeOf, stepIn, stepOf, closeIn, closeOf}
 use Rattle.iso2022jp.specs.Iso2022JpLaws.{escape-lead}
 use Rattle.iso2022jp.specs.Agreement.{decoderState, outputState, pendingLead, recordOf, outcomeOf}
 
@@ -47,11 +47,11 @@ module _ (index : List ℕ) (out : OutputState) (lead : ℕ) (output : Bool) (b 
   in-roman-agrees = sym (simp (through outcomeOf))
 
   in-katakana-agrees : Agrees katakana
-  unfolding stepIn katakanaOf handler on-byte outcomeBy
+  unfolding stepIn rangedOf handler on-byte outcomeBy
   in-katakana-agrees = sym (simp (through outcomeOf))
 
   in-lead-byte-agrees : Agrees lead-byte
-  unfolding stepIn leadOf handler on-byte outcomeBy
+  unfolding stepIn rangedOf handler on-byte outcomeBy
   in-lead-byte-agrees = sym (simp (through outcomeOf))
 
   in-escape-start-agrees : Agrees escape-start

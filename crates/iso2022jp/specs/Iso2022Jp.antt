@@ -101,15 +101,17 @@ asciiOf state m b =
     cond (eqb b escapeByte) (alive (started m))
     (cond (isText b) (alive (putOut state m)) dropped)
 
-unfoldable pub katakanaOf : Iso2022Jp → ℕ → Outcome
-katakanaOf m b =
+-- 21 up to a highest byte
+unfoldable pub rangedOf : Iso2022Jp → Iso2022Jp → ℕ → ℕ → Outcome
+rangedOf m next high b =
     cond (eqb b escapeByte) (alive (started m))
-    (cond (between 0x21 0x5F b) (alive (putOut Katakana m)) dropped)
+    (cond (between 0x21 high b) (alive next) dropped)
 
-unfoldable pub leadOf : Iso2022Jp → ℕ → Outcome
-leadOf m b =
-    cond (eqb b escapeByte) (alive (started m))
-    (cond (between 0x21 0x7E b) (alive (holds TrailByte (m .out) b false)) dropped)
+abbrev pub katakanaOf : Iso2022Jp → ℕ → Outcome
+katakanaOf m b = rangedOf m (putOut Katakana m) 0x5F b
+
+abbrev pub leadOf : Iso2022Jp → ℕ → Outcome
+leadOf m b = rangedOf m (holds TrailByte (m .out) b false) 0x7E b
 
 -- where a pair stands in the index
 abbrev pub pairAt : ℕ → ℕ → ℕ

@@ -24,7 +24,7 @@ use Rattle.iso2022jp.specs.declared.Designated.the-variants.{To, Nothing
 use Rattle.iso2022jp.specs.declared.Iso2022Jp.{Iso2022Jp}
 use Rattle.iso2022jp.specs.declared.Ran.{Ran}
 use Rattle.iso2022jp.specs.declared.Ran.the-variants.{Live, Dropped, Unfit}
-use Rattle.iso2022jp.specs.Iso2022Jp.{Outcome, holds, fresh, LeadIn, Sound, leadsEscape, leadInB, soundB, entries, mapped, indexedBy, alive, dropped, escapeByte, started, putOut, isText, asciiOf, katakanaOf, leadOf, pairAt, trailOf, escapeStartOf, designated, stateOf, escapedTo, escapeOf, stepIn, stepOf, closeIn, closeOf, ranAs, most, Ready, readyB, ranOf, closedOf}
+use Rattle.iso2022jp.specs.Iso2022Jp.{Outcome, holds, fresh, LeadIn, Sound, leadsEscape, leadInB, soundB, entries, mapped, indexedBy, alive, dropped, escapeByte, started, putOut, isText, asciiOf, rangedOf, pairAt, trailOf, escapeStartOf, designated, stateOf, escapedTo, escapeOf, stepIn, stepOf, closeIn, closeOf, ranAs, most, Ready, readyB, ranOf, closedOf}
 
 -- ---- an entry of the index, each way through the code
 module _ (entry : ℕ) where
@@ -119,15 +119,9 @@ module _ (m : Iso2022Jp) (b : ℕ) where
   unfolding asciiOf
   ascii-keeps state h = either Kept (eqb b escapeByte) (λ e. (refl, refl)) (λ e. either Kept (isText b) (λ e. (h, refl)) (λ e. tt))
 
-  katakana-keeps : Kept (katakanaOf m b)
-  unfolding katakanaOf
-  katakana-keeps = either Kept (eqb b escapeByte) (λ e. (refl, refl)) (λ e. either Kept (between 0x21 0x5F b) (λ e. (refl, refl)) (λ e. tt))
-
-  lead-keeps : Kept (leadOf m b)
-  unfolding leadOf
-  lead-keeps =
-      either Kept (eqb b escapeByte) (λ e. (refl, refl))
-      (λ e. either Kept (between 0x21 0x7E b) (λ e. ((between-low 0x21 0x7E b e, between-high 0x21 0x7E b e), refl)) (λ e. tt))
+  ranged-keeps : (next : Iso2022Jp) (high : ℕ) → (between 0x21 high b ≡ true → Sound next) → Kept (rangedOf m next high b)
+  unfolding rangedOf
+  ranged-keeps next high h = either Kept (eqb b escapeByte) (λ e. (refl, refl)) (λ e. either Kept (between 0x21 high b) (λ e. (h e, refl)) (λ e. tt))
 
   trail-keeps : (index : List ℕ) → Kept (trailOf index m b)
   unfolding trailOf
@@ -153,8 +147,8 @@ in-keeps : (index : List ℕ) (state : DecoderState) (m : Iso2022Jp) (b : ℕ) �
 unfolding stepIn
 in-keeps index Ascii m b = ascii-keeps m b Ascii refl
 in-keeps index Roman m b = ascii-keeps m b Roman refl
-in-keeps index Katakana m b = katakana-keeps m b
-in-keeps index LeadByte m b = lead-keeps m b
+in-keeps index Katakana m b = ranged-keeps m b (putOut Katakana m) 0x5F (λ e. refl)
+in-keeps index LeadByte m b = ranged-keeps m b (holds TrailByte (m .out) b false) 0x7E (λ e. (between-low 0x21 0x7E b e, between-high 0x21 0x7E b e))
 in-keeps index TrailByte m b = trail-keeps m b index
 in-keeps index EscapeStart m b = start-keeps m b
 in-keeps index Escape m b = escaped-keeps (m .output) (designated (m .lead) b)

@@ -4,7 +4,7 @@ ghost use Prim.Native.Nat.{_≤_};
 ghost use lib.ListN.{length};
 ghost use Rattle.laws.specs.Run.{run};
 ghost use Rattle.octets.specs.Octets.{between};
-ghost use Rattle.iso2022jp.specs.Iso2022Jp.{Sound, alive, asciiOf, closedOf, designated, entries, escapeOf, escapeStartOf, fresh, katakanaOf, leadOf, leadsEscape, mapped, outOf, ranAs, ranOf, soundB, started, stateOf, stepOf, trailOf};
+ghost use Rattle.iso2022jp.specs.Iso2022Jp.{Sound, alive, asciiOf, closedOf, designated, entries, escapeOf, escapeStartOf, fresh, katakanaOf, leadOf, leadsEscape, mapped, outOf, ranAs, ranOf, rangedOf, soundB, started, stateOf, stepOf, trailOf};
 
 pub enum DecoderState {
     Ascii,
@@ -184,40 +184,43 @@ impl Iso2022Jp {
         })
     }
 
-    fn katakana(self, b: u8) -> Stepped
-        ensures { λ r. ⌜ outOf r ≡ katakanaOf self b ⌝ }
+    // A byte from 0x21 to the highest gives the next record.
+    fn ranged(self, next: Iso2022Jp, high: u8, b: u8) -> Stepped
+        ensures { λ r. ⌜ outOf r ≡ rangedOf self next high b ⌝ }
     {
         if b == Iso2022Jp::ESCAPE {
             return self.start_escape();
         }
-        if is_between(0x21, 0x5F, b) {
-            let out = self.out;
-            return Stepped::Alive(Iso2022Jp {
-                state: DecoderState::Katakana,
-                out,
-                lead: 0,
-                output: false,
-            });
+        if is_between(0x21, high, b) {
+            return Stepped::Alive(next);
         }
         Stepped::Invalid
+    }
+
+    fn katakana(self, b: u8) -> Stepped
+        ensures { λ r. ⌜ outOf r ≡ katakanaOf self b ⌝ }
+    {
+        let out = self.out;
+        let next = Iso2022Jp {
+            state: DecoderState::Katakana,
+            out,
+            lead: 0,
+            output: false,
+        };
+        self.ranged(next, 0x5F, b)
     }
 
     fn lead_byte(self, b: u8) -> Stepped
         ensures { λ r. ⌜ outOf r ≡ leadOf self b ⌝ }
     {
-        if b == Iso2022Jp::ESCAPE {
-            return self.start_escape();
-        }
-        if is_between(0x21, 0x7E, b) {
-            let out = self.out;
-            return Stepped::Alive(Iso2022Jp {
-                state: DecoderState::TrailByte,
-                out,
-                lead: b,
-                output: false,
-            });
-        }
-        Stepped::Invalid
+        let out = self.out;
+        let next = Iso2022Jp {
+            state: DecoderState::TrailByte,
+            out,
+            lead: b,
+            output: false,
+        };
+        self.ranged(next, 0x7E, b)
     }
 
     // An escape byte is an error here too.

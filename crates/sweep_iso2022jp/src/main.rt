@@ -5,33 +5,17 @@ ghost use mathlib.Core.Path.{_≡_};
 ghost use lib.ListN.{length};
 use iso2022jp::Iso2022Jp;
 use iso2022jp::Ran;
-use libc::STDOUT_FILENO;
-
-const WHOLE: u8 = 0;
-
-const CUT: u8 = 1;
-
-const NONE: u8 = 2;
-
-const UNFIT: u8 = 3;
-
-struct Counts {
-    all: u64,
-    whole: u64,
-    cut: u64,
-    none: u64,
-    differ: u64,
-}
+use tally::Counts;
 
 fn machine(part: &[u8], index: &[u32]) -> u8 {
     match Iso2022Jp::fresh().run(part, index) {
         Ran::Live(m) => match m.close() {
-            Ran::Live(_) => WHOLE,
-            Ran::Dropped => CUT,
-            Ran::Unfit => UNFIT,
+            Ran::Live(_) => tally::WHOLE,
+            Ran::Dropped => tally::CUT,
+            Ran::Unfit => tally::UNFIT,
         },
-        Ran::Dropped => NONE,
-        Ran::Unfit => UNFIT,
+        Ran::Dropped => tally::NONE,
+        Ran::Unfit => tally::UNFIT,
     }
 }
 
@@ -50,24 +34,36 @@ fn place(b: u8) -> usize
 // The five escapes.
 fn second_escape(x: u8, y: u8) -> u8 {
     match wide(x) * 256 + wide(y) {
-        0x2440 | 0x2442 | 0x2842 | 0x2849 | 0x284A => WHOLE,
-        _ => NONE,
+        0x2440 | 0x2442 | 0x2842 | 0x2849 | 0x284A => tally::WHOLE,
+        _ => tally::NONE,
     }
 }
 
 // A byte after the escape ESC ( or ESC $ with this last byte.
 fn second_after(last: u8, b: u8) -> u8 {
     if b == 0x1B {
-        return CUT;
+        return tally::CUT;
     }
     match last {
-        0x49 => { if 0x20 < b && b < 0x60 { WHOLE } else { NONE } }
-        0x40 => { if 0x20 < b && b < 0x7F { CUT } else { NONE } }
+        0x49 => {
+            if 0x20 < b && b < 0x60 {
+                tally::WHOLE
+            } else {
+                tally::NONE
+            }
+        }
+        0x40 => {
+            if 0x20 < b && b < 0x7F {
+                tally::CUT
+            } else {
+                tally::NONE
+            }
+        }
         _ => {
             if 0x7F < b || b == 14 || b == 15 {
-                NONE
+                tally::NONE
             } else {
-                WHOLE
+                tally::WHOLE
             }
         }
     }
@@ -92,53 +88,24 @@ fn pair_place(a: u8, b: u8) -> usize {
 
 fn second_pair(a: u8, b: u8, index: &[u32]) -> u8 {
     if a == 0x1B {
-        return if b == 0x24 || b == 0x28 { CUT } else { NONE };
+        return if b == 0x24 || b == 0x28 {
+            tally::CUT
+        } else {
+            tally::NONE
+        };
     }
     let at = pair_place(a, b);
     if at == 0 {
-        return NONE;
+        return tally::NONE;
     }
     if index.len() < at {
-        return NONE;
+        return tally::NONE;
     }
-    if index[at - 1] == 0 { NONE } else { WHOLE }
-}
-
-fn more(n: u64) -> u64 {
-    std::num::wrapping_add_u64(n, 1)
-}
-
-fn nothing() -> Counts {
-    Counts {
-        all: 0,
-        whole: 0,
-        cut: 0,
-        none: 0,
-        differ: 0,
+    if index[at - 1] == 0 {
+        tally::NONE
+    } else {
+        tally::WHOLE
     }
-}
-
-fn counted(counts: Counts, found: u8, expected: u8) -> Counts {
-    let mut next = counts;
-    next.all = more(next.all);
-    if found != expected {
-        next.differ = more(next.differ);
-    }
-    match found {
-        0 => {
-            next.whole = more(next.whole);
-        }
-        1 => {
-            next.cut = more(next.cut);
-        }
-        2 => {
-            next.none = more(next.none);
-        }
-        _ => {
-            next.differ = more(next.differ);
-        }
-    }
-    next
 }
 
 fn low(n: u32) -> u8 {
@@ -157,14 +124,12 @@ fn tried(counts: Counts, sweep: Sweep, n: u32, index: &[u32]) -> Counts {
     let a = low(n / 256);
     let b = low(n);
     match sweep {
-        Sweep::Escapes => counted(counts, machine(&[0x1B, a, b], index), second_escape(a, b)),
-        Sweep::After(second, last) => counted(
-            counts,
+        Sweep::Escapes => counts.counted(machine(&[0x1B, a, b], index), second_escape(a, b)),
+        Sweep::After(second, last) => counts.counted(
             machine(&[0x1B, second, last, b], index),
             second_after(last, b),
         ),
-        Sweep::Pairs => counted(
-            counts,
+        Sweep::Pairs => counts.counted(
             machine(&[0x1B, 0x24, 0x42, a, b], index),
             second_pair(a, b, index),
         ),
@@ -172,7 +137,7 @@ fn tried(counts: Counts, sweep: Sweep, n: u32, index: &[u32]) -> Counts {
 }
 
 fn swept(sweep: Sweep, to: u32, index: &[u32]) -> Counts {
-    let mut counts = nothing();
+    let mut counts = Counts::nothing();
     let mut n = 0;
     while n < to {
         counts = tried(counts, sweep, n, index);
@@ -196,51 +161,20 @@ fn fill(index: &mut [u32], bytes: &[u8]) -> u64
         let entry = word(bytes[at], bytes[at + 1], bytes[at + 2], bytes[at + 3]);
         index[i] = entry;
         if entry != 0 {
-            mapped = more(mapped);
+            mapped = std::num::wrapping_add_u64(mapped, 1);
         }
         i += 1;
     }
     mapped
 }
 
-fn print_word(word: &[u8]) {
-    io::write_all(STDOUT_FILENO, word);
-}
-
-fn print_count(word: &[u8], n: u64) {
-    print_word(word);
-    io::print_decimal(STDOUT_FILENO, n);
-}
-
-fn print_counts(name: &[u8], counts: Counts) {
-    print_word(name);
-    print_count(b" ", counts.all);
-    print_count(b" whole ", counts.whole);
-    print_count(b" cut ", counts.cut);
-    print_count(b" none ", counts.none);
-    print_count(b" differ ", counts.differ);
-    print_word(b"\n");
-}
-
 fn print_sweeps(index: &[u32]) {
-    print_counts(b"escapes:", swept(Sweep::Escapes, 65536, index));
-    print_counts(
-        b"bytes after ESC ( B:",
-        swept(Sweep::After(0x28, 0x42), 256, index),
-    );
-    print_counts(
-        b"bytes after ESC ( J:",
-        swept(Sweep::After(0x28, 0x4A), 256, index),
-    );
-    print_counts(
-        b"bytes after ESC ( I:",
-        swept(Sweep::After(0x28, 0x49), 256, index),
-    );
-    print_counts(
-        b"bytes after ESC $ @:",
-        swept(Sweep::After(0x24, 0x40), 256, index),
-    );
-    print_counts(b"pairs after ESC $ B:", swept(Sweep::Pairs, 65536, index));
+    swept(Sweep::Escapes, 65536, index).print(b"escapes:");
+    swept(Sweep::After(0x28, 0x42), 256, index).print(b"bytes after ESC ( B:");
+    swept(Sweep::After(0x28, 0x4A), 256, index).print(b"bytes after ESC ( J:");
+    swept(Sweep::After(0x28, 0x49), 256, index).print(b"bytes after ESC ( I:");
+    swept(Sweep::After(0x24, 0x40), 256, index).print(b"bytes after ESC $ @:");
+    swept(Sweep::Pairs, 65536, index).print(b"pairs after ESC $ B:");
 }
 
 fn main() {
@@ -253,9 +187,9 @@ fn main() {
     let mut bytes = [0u8; 35344];
     let got = io::read_full(file, &mut bytes);
     libc::close(file);
-    print_count(b"bytes of the index ", got as u64);
+    tally::print_count(b"bytes of the index ", got as u64);
     let mut index = [0u32; 8836];
-    print_count(b", mapped ", fill(&mut index, &bytes));
-    print_word(b"\n");
+    tally::print_count(b", mapped ", fill(&mut index, &bytes));
+    tally::print_word(b"\n");
     print_sweeps(&index);
 }

@@ -3,17 +3,9 @@
 // whole, cut and none, and on how many the two differ.
 ghost use mathlib.Core.Path.{_≡_};
 ghost use Prim.Native.Nat.{_<_, _≤_};
-use libc::STDOUT_FILENO;
+use tally::Counts;
 use utf8::Ran;
 use utf8::Utf8;
-
-const WHOLE: u8 = 0;
-
-const CUT: u8 = 1;
-
-const NONE: u8 = 2;
-
-const UNFIT: u8 = 3;
 
 // What the bytes of one sequence, read so far, can become: with `left` bytes to come, the code points from `low` on, one for each
 // value of those bytes. `least` is the lowest code point that may be written with so many bytes.
@@ -23,23 +15,15 @@ struct Part {
     least: u64,
 }
 
-struct Counts {
-    all: u64,
-    whole: u64,
-    cut: u64,
-    none: u64,
-    differ: u64,
-}
-
 fn machine(part: &[u8]) -> u8 {
     match Utf8::fresh().run(part) {
         Ran::Live(m) => match m.close() {
-            Ran::Live(_) => WHOLE,
-            Ran::Dropped => CUT,
-            Ran::Unfit => UNFIT,
+            Ran::Live(_) => tally::WHOLE,
+            Ran::Dropped => tally::CUT,
+            Ran::Unfit => tally::UNFIT,
         },
-        Ran::Dropped => NONE,
-        Ran::Unfit => UNFIT,
+        Ran::Dropped => tally::NONE,
+        Ran::Unfit => tally::UNFIT,
     }
 }
 
@@ -133,52 +117,22 @@ fn second(bytes: &[u8]) -> u8 {
     while i < bytes.len() {
         part = taken(part, bytes[i]);
         if part.left == 9 {
-            return NONE;
+            return tally::NONE;
         }
         if !is_possible(part) {
-            return NONE;
+            return tally::NONE;
         }
         i += 1;
     }
-    if part.left == 0 { WHOLE } else { CUT }
-}
-
-fn more(n: u64) -> u64 {
-    std::num::wrapping_add_u64(n, 1)
+    if part.left == 0 {
+        tally::WHOLE
+    } else {
+        tally::CUT
+    }
 }
 
 fn counted(counts: Counts, bytes: &[u8]) -> Counts {
-    let found = machine(bytes);
-    let mut next = counts;
-    next.all = more(next.all);
-    if found != second(bytes) {
-        next.differ = more(next.differ);
-    }
-    match found {
-        0 => {
-            next.whole = more(next.whole);
-        }
-        1 => {
-            next.cut = more(next.cut);
-        }
-        2 => {
-            next.none = more(next.none);
-        }
-        _ => {
-            next.differ = more(next.differ);
-        }
-    }
-    next
-}
-
-fn nothing() -> Counts {
-    Counts {
-        all: 0,
-        whole: 0,
-        cut: 0,
-        none: 0,
-        differ: 0,
-    }
+    counts.counted(machine(bytes), second(bytes))
 }
 
 fn counted_first(counts: Counts, bytes: &[u8], len: usize) -> Counts {
@@ -196,7 +150,7 @@ fn byte(n: u64) -> u8 {
 fn swept(len: usize, from: u64, to: u64, step: u64) -> Counts
     requires { ⌜ (0 < step) × ((to ≤ 4294967296) × (step ≤ 4294967296)) ⌝ }
 {
-    let mut counts = nothing();
+    let mut counts = Counts::nothing();
     let mut n = from;
     while n < to {
         let bytes = [
@@ -227,7 +181,7 @@ fn edge(i: u8) -> u8 {
 
 // From each lead of four bytes.
 fn swept_edges() -> Counts {
-    let mut counts = nothing();
+    let mut counts = Counts::nothing();
     let mut n: u64 = 0;
     while n < 2560 {
         let bytes = [
@@ -242,47 +196,20 @@ fn swept_edges() -> Counts {
     counts
 }
 
-fn print_word(word: &[u8]) {
-    io::write_all(STDOUT_FILENO, word);
-}
-
-fn print_count(word: &[u8], n: u64) {
-    print_word(word);
-    io::print_decimal(STDOUT_FILENO, n);
-}
-
-fn print_counts(name: &[u8], counts: Counts) {
-    print_word(name);
-    print_count(b" ", counts.all);
-    print_count(b" whole ", counts.whole);
-    print_count(b" cut ", counts.cut);
-    print_count(b" none ", counts.none);
-    print_count(b" differ ", counts.differ);
-    print_word(b"\n");
+fn print_one(name: &[u8], bytes: &[u8]) {
+    counted(Counts::nothing(), bytes).print(name);
 }
 
 fn main() {
-    print_counts(b"one byte:", swept(1, 0, 0x1_0000_0000, 0x100_0000));
-    print_counts(b"two bytes:", swept(2, 0, 0x1_0000_0000, 0x1_0000));
-    print_counts(
-        b"three bytes from a lead:",
-        swept(3, 0xC200_0000, 0xF500_0000, 0x100),
-    );
-    print_counts(b"four bytes at the edges:", swept_edges());
-    print_counts(b"ED 9F BF:", counted(nothing(), &[0xED, 0x9F, 0xBF]));
-    print_counts(b"ED A0 80:", counted(nothing(), &[0xED, 0xA0, 0x80]));
-    print_counts(
-        b"F4 8F BF BF:",
-        counted(nothing(), &[0xF4, 0x8F, 0xBF, 0xBF]),
-    );
-    print_counts(
-        b"F4 90 80 80:",
-        counted(nothing(), &[0xF4, 0x90, 0x80, 0x80]),
-    );
-    print_counts(b"C0 80:", counted(nothing(), &[0xC0, 0x80]));
-    print_counts(
-        b"F0 8F BF BF:",
-        counted(nothing(), &[0xF0, 0x8F, 0xBF, 0xBF]),
-    );
-    print_counts(b"E0 9F BF:", counted(nothing(), &[0xE0, 0x9F, 0xBF]));
+    swept(1, 0, 0x1_0000_0000, 0x100_0000).print(b"one byte:");
+    swept(2, 0, 0x1_0000_0000, 0x1_0000).print(b"two bytes:");
+    swept(3, 0xC200_0000, 0xF500_0000, 0x100).print(b"three bytes from a lead:");
+    swept_edges().print(b"four bytes at the edges:");
+    print_one(b"ED 9F BF:", &[0xED, 0x9F, 0xBF]);
+    print_one(b"ED A0 80:", &[0xED, 0xA0, 0x80]);
+    print_one(b"F4 8F BF BF:", &[0xF4, 0x8F, 0xBF, 0xBF]);
+    print_one(b"F4 90 80 80:", &[0xF4, 0x90, 0x80, 0x80]);
+    print_one(b"C0 80:", &[0xC0, 0x80]);
+    print_one(b"F0 8F BF BF:", &[0xF0, 0x8F, 0xBF, 0xBF]);
+    print_one(b"E0 9F BF:", &[0xE0, 0x9F, 0xBF]);
 }

@@ -48,8 +48,8 @@ mul-index c = search needs
 slice-write-index : tie.Need-slice-write-index Inv-loop μ-loop
 slice-write-index c = search needs
 
-more-requires : tie.Need-more-requires Inv-loop μ-loop
-more-requires c κs = search needs
+wrapping-add-u64-requires : tie.Need-wrapping-add-u64-requires Inv-loop μ-loop
+wrapping-add-u64-requires c κs = search needs
 
 add-i : tie.Need-add-i Inv-loop μ-loop
 add-i c = search needs
@@ -84,7 +84,7 @@ fill-spec =
     word-requires
     mul-index
     slice-write-index
-    more-requires
+    wrapping-add-u64-requires
     add-i
     loop-less
     loop-again
