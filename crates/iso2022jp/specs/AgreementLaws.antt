@@ -1,7 +1,7 @@
 -- The machine agrees with the Standard's decoder at every byte and at the end, whatever the decoder's variables are; and the
 -- record of variables that the decoder can have is one that the kind can hold. Assumes nothing.
 use mathlib.Core.Path.{_≡_, refl, sym, ap, _∙_}
-use mathlib.Core.Bool.{Bool, true, false, cond, _&&_, _||_}
+use mathlib.Core.Bool.{Bool, true, false, cond}
 use mathlib.Core.List.{List}
 use mathlib.Core.Logic.{_⊎_}
 use Prim.Native.Nat.{ℕ, _≤_}
@@ -9,20 +9,18 @@ use native.Mathlib.Omega.{arith}
 use lib.Dec.{eqb}
 use borrow.Author.Tests.{eqb-true}
 use Rattle.laws.specs.Tests.{either, through}
-use Rattle.laws.specs.Validator.{Item, end-of-queue, byte, Result, continue, code-point, error, finished, after, at-start, on, outcomeBy, decoded, decodes}
+use Rattle.laws.specs.Validator.{end-of-queue, byte, Result, after, at-start, on, outcomeBy, decoded, decodes}
 use Rattle.laws.specs.Run.{run}
 use Rattle.laws.specs.Still.{ended}
 use Rattle.octets.specs.Octets.{between}
 use Rattle.octets.specs.BetweenLaws.{below, between-low, between-high}
-use Rattle.iso2022jp.specs.declared.DecoderState.{DecoderState as MachineState}
 use Rattle.iso2022jp.specs.declared.DecoderState.the-variants.{LeadByte}
-use Rattle.iso2022jp.specs.declared.OutputState.{OutputState as MachineOutput}
 use Rattle.iso2022jp.specs.declared.Designated.{Designated}
 use Rattle.iso2022jp.specs.declared.Designated.the-variants.{To, Nothing}
-use Rattle.iso2022jp.specs.Standard.{DecoderState, ascii, roman, katakana, lead-byte, trail-byte, escape-start, escape, OutputState, out-ascii, out-roman, out-katakana, out-lead-byte, as-state, Decoder, variables, initial, is-text, to, pointer, Set, null, state, set-by, after-set, in-escape, on-byte, on-end, handler, Reached}
-use Rattle.iso2022jp.specs.Iso2022Jp.{Outcome, holds, fresh, Sound, leadsEscape, indexedBy, alive, dropped, escapeByte, isText, asciiOf, rangedOf, pairAt, trailOf, escapeStartOf, designated, stateOf, escapedTo, escapeOf, stepIn, stepOf, closeIn, closeOf}
+use Rattle.iso2022jp.specs.Standard.{DecoderState, ascii, roman, katakana, lead-byte, trail-byte, escape-start, escape, OutputState, out-ascii, out-roman, out-katakana, out-lead-byte, as-state, Decoder, variables, initial, is-text, pointer, Set, null, state, set-by, after-set, on-byte, on-end, handler, Reached}
+use Rattle.iso2022jp.specs.Iso2022Jp.{holds, fresh, Sound, leadsEscape, indexedBy, alive, dropped, isText, asciiOf, rangedOf, pairAt, trailOf, escapeStartOf, designated, stateOf, escapedTo, stepIn, stepOf, closeIn, closeOf}
 use Rattle.iso2022jp.specs.Iso2022JpLaws.{escape-lead}
-use Rattle.iso2022jp.specs.Agreement.{decoderState, outputState, pendingLead, recordOf, outcomeOf}
+use Rattle.iso2022jp.specs.Agreement.{outputState, recordOf, outcomeOf}
 
 -- ---- an escape
 abbrev designation : Set → Designated

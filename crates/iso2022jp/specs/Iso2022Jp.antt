@@ -8,6 +8,7 @@ use lib.Dec.{eqb, leb}
 use lib.IntN.{pos}
 use lib.ListN.{length, getD}
 use Rattle.laws.specs.Lists.{isIn}
+use Rattle.laws.specs.Limit.{most}
 use Rattle.laws.specs.Run.{Out, none, live, run}
 use Rattle.octets.specs.Octets.{between}
 use Rattle.iso2022jp.specs.declared.DecoderState.{DecoderState}
@@ -180,10 +181,6 @@ outOf Invalid = dropped
 unfoldable pub ranAs : Outcome → Ran
 ranAs (none d) = Dropped
 ranAs (live m s) = Live m
-
--- the bytes that a stretch may have
-abbrev pub most : ℕ
-most = 268435456
 
 -- a record that the kind can hold, an index of the right length, and a stretch that is not too long
 pub record Ready (index : List ℕ) (m : Iso2022Jp) (xs : List ℕ) : Type 0 where

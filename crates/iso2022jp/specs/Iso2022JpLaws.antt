@@ -1,6 +1,6 @@
 -- What holds of the ISO-2022-JP machine's definitions, and each way through the code. Assumes nothing.
-use mathlib.Core.Path.{_≡_, refl, sym, ap, _∙_}
-use mathlib.Core.Bool.{Bool, true, false, cond, not, _&&_, _||_, and-false}
+use mathlib.Core.Path.{_≡_, refl}
+use mathlib.Core.Bool.{Bool, true, false, _||_, and-false}
 use mathlib.Core.List.{List, [], _∷_, _++_}
 use mathlib.Core.Logic.{_⊎_, inl, inr}
 use Prim.Native.Nat.{ℕ, _<_, _≤_}
@@ -10,7 +10,8 @@ use lib.IntN.{ℤ, pos}
 use lib.ListN.{length}
 use borrow.Author.Tests.{eq-eqb, ne-eqb, eqb-true, le-leb, lt-leb, leb-true, leb-false}
 use Rattle.laws.specs.Lists.{any, isIn}
-use Rattle.laws.specs.Run.{Out, none, live, run, run-append}
+use Rattle.laws.specs.Limit.{most}
+use Rattle.laws.specs.Run.{live, run, run-append}
 use Rattle.laws.specs.Still.{Ends, run-ends, run-stays}
 use Rattle.laws.specs.Tests.{both, neither, either}
 use Rattle.octets.specs.Octets.{between, nonAscii}
@@ -23,8 +24,8 @@ use Rattle.iso2022jp.specs.declared.Designated.{Designated}
 use Rattle.iso2022jp.specs.declared.Designated.the-variants.{To, Nothing}
 use Rattle.iso2022jp.specs.declared.Iso2022Jp.{Iso2022Jp}
 use Rattle.iso2022jp.specs.declared.Ran.{Ran}
-use Rattle.iso2022jp.specs.declared.Ran.the-variants.{Live, Dropped, Unfit}
-use Rattle.iso2022jp.specs.Iso2022Jp.{Outcome, holds, fresh, LeadIn, Sound, leadsEscape, leadInB, soundB, entries, mapped, indexedBy, alive, dropped, escapeByte, started, putOut, isText, asciiOf, rangedOf, pairAt, trailOf, escapeStartOf, designated, stateOf, escapedTo, escapeOf, stepIn, stepOf, closeIn, closeOf, ranAs, most, Ready, readyB, ranOf, closedOf}
+use Rattle.iso2022jp.specs.declared.Ran.the-variants.{Unfit}
+use Rattle.iso2022jp.specs.Iso2022Jp.{Outcome, holds, fresh, LeadIn, Sound, leadsEscape, leadInB, soundB, entries, mapped, indexedBy, alive, escapeByte, putOut, isText, asciiOf, rangedOf, pairAt, trailOf, escapeStartOf, designated, stateOf, escapedTo, stepIn, stepOf, closeOf, ranAs, Ready, readyB, ranOf, closedOf}
 
 -- ---- an entry of the index, each way through the code
 module _ (entry : ℕ) where

@@ -1,7 +1,7 @@
 -- The Encoding Standard's ISO-2022-JP decoder, in its variables and its order, as far as a validator goes: what the code point
 -- is does not matter, only whether there is one. Assumes nothing.
 use mathlib.Core.Bool.{Bool, true, false, cond, not, _&&_, _||_}
-use mathlib.Core.List.{List, [], _∷_}
+use mathlib.Core.List.{[], _∷_}
 use Prim.Native.Nat.{ℕ, _+_, _-_, _*_}
 use lib.Dec.{eqb}
 use Rattle.laws.specs.Lists.{isIn}

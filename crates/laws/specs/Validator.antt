@@ -1,11 +1,11 @@
 -- The Encoding Standard's decoders as far as a validator goes: what the code point is does not matter, only whether there is one.
 -- Vars are a decoder's variables. A machine that agrees with a decoder at every item agrees with it over a whole stream.
 -- Assumes nothing.
-use mathlib.Core.Path.{_≡_, refl, sym, ap, _∙_}
+use mathlib.Core.Path.{_≡_, ap, _∙_}
 use mathlib.Core.List.{List, [], _∷_}
 use Prim.Native.Nat.{ℕ}
 use lib.IntN.{pos}
-use Rattle.laws.specs.Run.{Out, none, live, plus, run, run-nil}
+use Rattle.laws.specs.Run.{Out, none, live, run, run-nil}
 use Rattle.laws.specs.Still.{ended, plus-zero, run-first, run-drops}
 
 -- what a decoder reads from its queue

@@ -1,21 +1,20 @@
 -- The machine agrees with the Standard's decoder at every byte and at the end, for all variables that the decoder can have.
 -- Assumes nothing.
-use mathlib.Core.Path.{_≡_, refl, sym, ap, _∙_}
+use mathlib.Core.Path.{_≡_, refl, sym}
 use mathlib.Core.Bool.{Bool, true, false, cond}
 use mathlib.Core.List.{List}
 use Prim.Native.Nat.{ℕ, zero, suc, _+_, _-_, _<_, _≤_}
 use native.Mathlib.Omega.{arith}
 use lib.Dec.{eqb}
-use lib.IntN.{pos}
 use borrow.Author.Tests.{ne-eqb, eqb-true, eqb-false}
 use Rattle.laws.specs.Tests.{either, through}
-use Rattle.laws.specs.Validator.{Item, end-of-queue, byte, Result, continue, code-point, error, finished, after, at-start, on, outcomeBy, decoded, decodes}
+use Rattle.laws.specs.Validator.{end-of-queue, byte, Result, continue, code-point, error, after, at-start, on, outcomeBy, decoded, decodes}
 use Rattle.laws.specs.Run.{run}
 use Rattle.laws.specs.Still.{ended}
 use Rattle.octets.specs.Octets.{between}
 use Rattle.utf8.specs.declared.Utf8.{Utf8}
 use Rattle.utf8.specs.Standard.{Decoder, variables, initial, handler, Reached}
-use Rattle.utf8.specs.Utf8.{Outcome, needs, fresh, Sound, plain, after-E0, after-ED, after-F0, after-F4, alive, dropped, leadOf, trailOf, stepOf, closeOf}
+use Rattle.utf8.specs.Utf8.{needs, fresh, Sound, plain, after-E0, after-ED, after-F0, after-F4, alive, dropped, leadOf, trailOf, stepOf, closeOf}
 use Rattle.utf8.specs.Utf8Laws.{cut-range, most-needed, fresh-sound}
 use Rattle.utf8.specs.Agreement.{recordOf, outcomeOf}
 

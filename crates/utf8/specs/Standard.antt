@@ -1,6 +1,6 @@
 -- The Encoding Standard's UTF-8 decoder, in its variables and its order, as far as a validator goes: what the code point is
 -- does not matter, only whether there is one. No byte order mark is looked for. Assumes nothing.
-use mathlib.Core.Bool.{Bool, cond}
+use mathlib.Core.Bool.{cond}
 use Prim.Native.Nat.{ℕ, _+_}
 use lib.Dec.{eqb}
 use Rattle.laws.specs.Validator.{Item, end-of-queue, byte, Result, continue, code-point, error, finished, ReachedBy}

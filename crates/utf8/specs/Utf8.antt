@@ -5,6 +5,7 @@ use Prim.Native.Nat.{ℕ, _-_, _≤_}
 use lib.Dec.{eqb, leb}
 use lib.IntN.{pos}
 use lib.ListN.{length}
+use Rattle.laws.specs.Limit.{most}
 use Rattle.laws.specs.Run.{Out, none, live, run}
 use Rattle.octets.specs.Octets.{between}
 use Rattle.utf8.specs.declared.Utf8.{Utf8}
@@ -80,10 +81,6 @@ outOf Invalid = dropped
 unfoldable pub ranAs : Outcome → Ran
 ranAs (none d) = Dropped
 ranAs (live m s) = Live m
-
--- the bytes that a stretch may have
-abbrev pub most : ℕ
-most = 268435456
 
 -- a record that the kind can hold, and a stretch that is not too long
 pub record Ready (m : Utf8) (xs : List ℕ) : Type 0 where

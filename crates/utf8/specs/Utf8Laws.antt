@@ -1,23 +1,23 @@
 -- What holds of the UTF-8 machine's definitions, and each way through the code. Assumes nothing.
-use mathlib.Core.Path.{_≡_, refl, sym, ap, subst, _∙_}
-use mathlib.Core.Bool.{Bool, true, false, cond, _&&_, _||_, and-false}
-use mathlib.Core.List.{List, [], _∷_, _++_}
-use Prim.Native.Nat.{ℕ, zero, suc, _-_, _<_, _≤_}
+use mathlib.Core.Path.{_≡_, refl, sym, subst, _∙_}
+use mathlib.Core.Bool.{Bool, true, false, cond, _||_, and-false}
+use mathlib.Core.List.{List, _++_}
+use Prim.Native.Nat.{ℕ, _-_, _<_, _≤_}
 use native.Mathlib.Omega.{arith}
 use lib.Dec.{eqb, leb}
 use lib.IntN.{ℤ, pos}
 use lib.ListN.{length}
 use borrow.Author.Tests.{eq-eqb, ne-eqb, eqb-true, le-leb, lt-leb, leb-true, leb-false}
 use Rattle.laws.specs.Lists.{any}
-use Rattle.laws.specs.Run.{Out, none, live, run, run-append}
+use Rattle.laws.specs.Limit.{most}
+use Rattle.laws.specs.Run.{live, run, run-append}
 use Rattle.laws.specs.Tests.{both, either}
 use Rattle.laws.specs.Still.{Lives, Ends, none-live, run-ends, run-stays}
 use Rattle.octets.specs.Octets.{between, nonAscii}
 use Rattle.octets.specs.BetweenLaws.{inside, below, above}
 use Rattle.utf8.specs.declared.Utf8.{Utf8}
-use Rattle.utf8.specs.declared.Ran.{Ran}
 use Rattle.utf8.specs.declared.Ran.the-variants.{Live, Dropped, Unfit}
-use Rattle.utf8.specs.Utf8.{Outcome, needs, fresh, Sound, plain, after-E0, after-ED, after-F0, after-F4, nextIn, nextCut, soundB, alive, dropped, leadOf, trailOf, stepOf, closeOf, ranAs, most, Ready, readyB, ranOf, closedOf}
+use Rattle.utf8.specs.Utf8.{Outcome, needs, fresh, Sound, plain, after-E0, after-ED, after-F0, after-F4, nextIn, nextCut, soundB, alive, dropped, leadOf, trailOf, stepOf, closeOf, ranAs, Ready, readyB, ranOf, closedOf}
 
 -- ---- each way through a byte that begins a sequence
 module _ (b : ℕ) where

@@ -1,24 +1,24 @@
 -- The UTF-8 machine lives through exactly the bytes that the table of well-formed sequences makes, and is whole at the close
 -- exactly if nothing of them is cut. Assumes nothing.
 use mathlib.Core.Path.{_≡_, refl, sym, ap, subst, _∙_}
-use mathlib.Core.Bool.{Bool, true, false, cond, _&&_, _||_}
+use mathlib.Core.Bool.{Bool, true, false, _&&_, _||_}
 use mathlib.Core.List.{List, [], _∷_, _++_, append-assoc, append-nil}
-use mathlib.Core.Logic.{_⊎_, inl, inr}
-use Prim.Native.Nat.{ℕ, zero, suc, _+_, _-_, _<_, _≤_}
+use mathlib.Core.Logic.{inl, inr}
+use Prim.Native.Nat.{ℕ, suc, _+_, _-_, _≤_}
 use native.Mathlib.Omega.{arith}
 use lib.Dec.{T, eqb, ltb, leb, eqb→eq, leb→le}
 use lib.IntN.{ℤ, pos, negsuc, +ℤ-idr}
 use lib.ListN.{length}
 use borrow.Author.Tests.{ltb-true, ltb-false}
-use Rattle.laws.specs.Run.{Out, none, live, plus, run, run-append, run-nil}
+use Rattle.laws.specs.Run.{none, live, plus, run, run-append, run-nil}
 use Rattle.laws.specs.Still.{Lives, lives, lives-begun, from-zero, run-first, run-drops, none-live, plus-live, ended, ended-live}
 use Rattle.laws.specs.Validator.{decoded}
 use Rattle.laws.specs.Table.{and-left, and-right, every, nothing, within}
 use Rattle.octets.specs.Octets.{between}
-use Rattle.octets.specs.BetweenLaws.{inside, between-low, between-high}
+use Rattle.octets.specs.BetweenLaws.{between-low, between-high}
 use Rattle.utf8.specs.declared.Utf8.{Utf8}
 use Rattle.utf8.specs.WellFormed.{Range, _to_, Row, table, Fits, FitsOne, WellFormed, Text, empty, then, Cut, Streams}
-use Rattle.utf8.specs.Utf8.{Outcome, needs, fresh, alive, dropped, leadOf, trailOf, stepOf, closeOf}
+use Rattle.utf8.specs.Utf8.{Outcome, needs, fresh, alive, dropped, leadOf, stepOf, closeOf}
 use Rattle.utf8.specs.Standard.{initial, handler}
 use Rattle.utf8.specs.Agreement.{outcomeOf}
 use Rattle.utf8.specs.AgreementLaws.{stream-agrees}

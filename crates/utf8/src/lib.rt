@@ -3,7 +3,7 @@ ghost use mathlib.Core.Path.{_≡_};
 ghost use mathlib.Core.Bool.{cond};
 ghost use lib.Dec.{eqb};
 ghost use Rattle.laws.specs.Run.{run};
-ghost use Rattle.utf8.specs.Utf8.{alive, closedOf, fresh, leadOf, nextCut, nextIn, outOf, ranAs, ranOf, soundB, stepOf, trailOf};
+ghost use Rattle.utf8.specs.Utf8.{alive, closedOf, fresh, leadOf, nextCut, nextIn, outOf, ranAs, ranOf, soundB, stepOf};
 
 // Between two bytes: how many more the sequence needs, and the range of the next one.
 pub struct Utf8 {

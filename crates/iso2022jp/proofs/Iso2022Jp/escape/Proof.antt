@@ -1,7 +1,6 @@
 -- `Iso2022Jp::escape` meets its contract. Assumes nothing.
 use mathlib.Core.Path.{_≡_, sym, ap, _∙_}
 use borrow.Author.Needs.{needs}
-use Rattle.iso2022jp.specs.declared.Designated.{Designated}
 use Rattle.iso2022jp.specs.declared.Designated.the-variants.{To}
 use Rattle.iso2022jp.specs.Iso2022Jp.{designated, escapedTo}
 use Rattle.iso2022jp.proofs.Iso2022Jp.escape.Statement.{statement}

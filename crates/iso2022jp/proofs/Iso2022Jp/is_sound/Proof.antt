@@ -1,5 +1,5 @@
 -- `Iso2022Jp::is_sound` meets its contract. Assumes nothing.
-use mathlib.Core.Path.{_≡_, sym, ap, _∙_}
+use mathlib.Core.Path.{sym, ap, _∙_}
 use borrow.Author.Needs.{needs}
 use Rattle.iso2022jp.specs.declared.DecoderState.{DecoderState}
 use Rattle.iso2022jp.specs.Iso2022Jp.{leadInB}

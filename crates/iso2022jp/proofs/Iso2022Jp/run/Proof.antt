@@ -1,5 +1,5 @@
 -- `Iso2022Jp::run` meets its contract. Assumes nothing.
-use mathlib.Core.Path.{_≡_, sym, _∙_}
+use mathlib.Core.Path.{sym, _∙_}
 use borrow.Author.Needs.{needs}
 use Rattle.iso2022jp.specs.Iso2022Jp.{Ready}
 use Rattle.iso2022jp.specs.Iso2022JpLaws.{true-sound, ran-ready, ran-unsound, ran-unsized, ran-long}

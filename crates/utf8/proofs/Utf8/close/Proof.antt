@@ -1,5 +1,5 @@
 -- `Utf8::close` meets its contract. Assumes nothing.
-use mathlib.Core.Path.{_≡_, sym, _∙_}
+use mathlib.Core.Path.{sym, _∙_}
 use borrow.Author.Needs.{needs}
 use Rattle.utf8.specs.Utf8Laws.{closed-whole, closed-cut, closed-unsound}
 use Rattle.utf8.proofs.Utf8.close.Statement.{statement}

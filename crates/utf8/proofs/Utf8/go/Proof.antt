@@ -5,7 +5,7 @@ use Prim.Native.Nat.{_-_, _≤_}
 use native.Mathlib.Omega.{arith}
 use borrow.Author.Needs.{needs}
 use lib.IntN.{pos}
-use lib.ListN.{length, drop, getD, length-drop}
+use lib.ListN.{length, drop, length-drop}
 use Rattle.laws.specs.Run.{run, run-done, turn-live, turn-none}
 use Rattle.utf8.specs.Utf8.{alive, outOf, ranAs, stepOf}
 use Rattle.utf8.proofs.Utf8.go.Statement.{statement}

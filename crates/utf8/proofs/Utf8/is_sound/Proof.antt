@@ -3,7 +3,7 @@ use mathlib.Core.Path.{_≡_, sym, _∙_}
 use mathlib.Core.Bool.{Bool, true, false}
 use borrow.Author.Needs.{needs}
 use borrow.Author.Tests.{eq-eqb, ne-eqb}
-use Rattle.utf8.specs.Utf8.{nextIn, nextCut, soundB}
+use Rattle.utf8.specs.Utf8.{nextIn, soundB}
 use Rattle.utf8.proofs.Utf8.is_sound.Statement.{statement}
 use Rattle.utf8.proofs.Utf8.is_sound.Tie as tie
 

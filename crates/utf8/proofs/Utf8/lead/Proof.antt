@@ -1,7 +1,6 @@
 -- `Utf8::lead` meets its contract. Assumes nothing.
 use mathlib.Core.Path.{ap, _∙_}
 use borrow.Author.Needs.{needs}
-use native.Mathlib.Omega.{arith}
 use Rattle.utf8.specs.Utf8.{alive}
 use Rattle.utf8.specs.Utf8Laws.{lead-ascii, lead-early, lead-two, lead-three, lead-four, lead-late}
 use Rattle.utf8.proofs.Utf8.lead.Statement.{statement}

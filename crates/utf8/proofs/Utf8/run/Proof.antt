@@ -1,5 +1,5 @@
 -- `Utf8::run` meets its contract. Assumes nothing.
-use mathlib.Core.Path.{_≡_, sym, _∙_}
+use mathlib.Core.Path.{sym, _∙_}
 use borrow.Author.Needs.{needs}
 use Rattle.utf8.specs.Utf8Laws.{true-sound, ran-ready, ran-unsound, ran-long}
 use Rattle.utf8.proofs.Utf8.run.Statement.{statement}
