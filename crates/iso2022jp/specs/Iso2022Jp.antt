@@ -175,7 +175,7 @@ closeOf m = closeIn (m .state) m
 
 -- ---- the code's answers
 abbrev pub outOf : Stepped → Outcome
-outOf (Alive m) = alive m
+outOf (Alive m g) = live m g
 outOf Invalid = dropped
 
 unfoldable pub ranAs : Outcome → Ran

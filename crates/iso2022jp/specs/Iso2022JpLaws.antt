@@ -157,8 +157,8 @@ in-keeps index Escape m b = escaped-keeps (m .output) (designated (m .lead) b)
 pub step-keeps : (index : List ℕ) (m : Iso2022Jp) (b : ℕ) → Sound m → Ends Sound (pos 0) (stepOf index m b)
 step-keeps index m b h = in-keeps index (m .state) m b
 
-pub step-sound : (index : List ℕ) (m n : Iso2022Jp) (b : ℕ) (s : ℤ) → stepOf index m b ≡ live n s → Sound n
-step-sound index m n b s e = (rw e at (in-keeps index (m .state) m b)) .0
+pub step-live : (index : List ℕ) (m n : Iso2022Jp) (b : ℕ) (s : ℤ) → stepOf index m b ≡ live n s → Sound n × (s ≡ pos 0)
+step-live index m n b s e = rw e at (in-keeps index (m .state) m b)
 
 module _ (index : List ℕ) where
   -- A stretch keeps what the kind can hold, and ends with the score that it began with, or none.

@@ -37,8 +37,9 @@ enum Designated {
     Nothing,
 }
 
+// The record after a byte and the change of the score, which is 0; or none.
 enum Stepped {
-    Alive(Iso2022Jp),
+    Alive(Iso2022Jp, i64),
     Invalid,
 }
 
@@ -150,12 +151,15 @@ impl Iso2022Jp {
         ensures { λ r. ⌜ outOf r ≡ alive (started self) ⌝ }
     {
         let out = self.out;
-        Stepped::Alive(Iso2022Jp {
-            state: DecoderState::EscapeStart,
-            out,
-            lead: 0,
-            output: self.output,
-        })
+        Stepped::Alive(
+            Iso2022Jp {
+                state: DecoderState::EscapeStart,
+                out,
+                lead: 0,
+                output: self.output,
+            },
+            0,
+        )
     }
 
     // A byte in ASCII and in Roman.
@@ -176,12 +180,15 @@ impl Iso2022Jp {
         }
         let state = self.state;
         let out = self.out;
-        Stepped::Alive(Iso2022Jp {
-            state,
-            out,
-            lead: 0,
-            output: false,
-        })
+        Stepped::Alive(
+            Iso2022Jp {
+                state,
+                out,
+                lead: 0,
+                output: false,
+            },
+            0,
+        )
     }
 
     // A byte from 0x21 to the highest gives the next record.
@@ -192,7 +199,7 @@ impl Iso2022Jp {
             return self.start_escape();
         }
         if is_between(0x21, high, b) {
-            return Stepped::Alive(next);
+            return Stepped::Alive(next, 0);
         }
         Stepped::Invalid
     }
@@ -234,12 +241,15 @@ impl Iso2022Jp {
         let at = (self.lead - 0x21) as usize * 94 + (b - 0x21) as usize;
         if is_mapped(index[at]) {
             let out = self.out;
-            return Stepped::Alive(Iso2022Jp {
-                state: DecoderState::LeadByte,
-                out,
-                lead: 0,
-                output: self.output,
-            });
+            return Stepped::Alive(
+                Iso2022Jp {
+                    state: DecoderState::LeadByte,
+                    out,
+                    lead: 0,
+                    output: self.output,
+                },
+                0,
+            );
         }
         Stepped::Invalid
     }
@@ -249,12 +259,15 @@ impl Iso2022Jp {
     {
         if is_escape_lead(b) {
             let out = self.out;
-            return Stepped::Alive(Iso2022Jp {
-                state: DecoderState::Escape,
-                out,
-                lead: b,
-                output: self.output,
-            });
+            return Stepped::Alive(
+                Iso2022Jp {
+                    state: DecoderState::Escape,
+                    out,
+                    lead: b,
+                    output: self.output,
+                },
+                0,
+            );
         }
         Stepped::Invalid
     }
@@ -269,12 +282,15 @@ impl Iso2022Jp {
         if self.output {
             return Stepped::Invalid;
         }
-        Stepped::Alive(Iso2022Jp {
-            state: decoder_state(out),
-            out,
-            lead: 0,
-            output: true,
-        })
+        Stepped::Alive(
+            Iso2022Jp {
+                state: decoder_state(out),
+                out,
+                lead: 0,
+                output: true,
+            },
+            0,
+        )
     }
 
     fn step(self, b: u8, index: &[u32]) -> Stepped
@@ -299,7 +315,7 @@ impl Iso2022Jp {
         let mut m = self;
         let mut i = 0;
         while i < part.len() {
-            let Stepped::Alive(next) = m.step(part[i], index) else {
+            let Stepped::Alive(next, _) = m.step(part[i], index) else {
                 return Ran::Dropped;
             };
             m = next;

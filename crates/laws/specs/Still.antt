@@ -2,12 +2,13 @@
 use mathlib.Core.Path.{_≡_, refl, sym, ap, _∙_}
 use mathlib.Core.Bool.{Bool, false}
 use mathlib.Core.List.{List, [], _∷_, _++_}
-use Prim.Native.Nat.{ℕ}
+use Prim.Native.Nat.{ℕ, _+_, _<_}
 use native.Mathlib.Omega.{arith}
 use lib.IntN.{ℤ, pos, _+ℤ_, +ℤ-idl, +ℤ-idr}
+use lib.ListN.{length, getD, drop}
 use Rattle.laws.specs.Lists.{any}
 use Rattle.laws.specs.Tests.{neither}
-use Rattle.laws.specs.Run.{Out, none, live, plus, feed, run, run-append, run-none, run-plus}
+use Rattle.laws.specs.Run.{Out, none, live, plus, feed, run, run-append, run-none, run-plus, turn-live}
 
 abbrev pub Lives : {D S : Type 0} → Out D S → Type 0
 Lives {S} o = (m : S) × ((s : ℤ) × (o ≡ live m s))
@@ -61,6 +62,10 @@ module _ {D S : Type 0} (step : S → ℕ → Out D S) where
   pub run-drops : (m : S) (d : D) (b : ℕ) (bs : List ℕ) → step m b ≡ none d → run step (live m (pos 0)) (b ∷ bs) ≡ none d
   unfolding run feed plus
   run-drops m d b bs e = rw e (run-none step d bs)
+
+  -- ---- for a loop: one turn at i
+  pub turn-still : (m n : S) (g : ℤ) (xs : List ℕ) (i : ℕ) → i < length xs → step m (getD xs i 0) ≡ live n g → g ≡ pos 0 → run step (live n (pos 0)) (drop (i + 1) xs) ≡ run step (live m (pos 0)) (drop i xs)
+  turn-still m n g xs i h e q = turn-live step m (pos 0) xs i h n (pos 0) (e ∙ ap (live n) q)
 
   -- ---- bytes that leave a record as it is
   pub run-stays : (m : S) (stirs : ℕ → Bool) → ((b : ℕ) → stirs b ≡ false → step m b ≡ live m (pos 0)) → (s : ℤ) (xs : List ℕ) → any stirs xs ≡ false → run step (live m s) xs ≡ live m s

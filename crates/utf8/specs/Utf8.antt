@@ -75,7 +75,7 @@ closeOf m = cond (eqb (m .need) 0) (alive m) dropped
 
 -- ---- the code's answers
 abbrev pub outOf : Stepped → Outcome
-outOf (Alive m) = alive m
+outOf (Alive m g) = live m g
 outOf Invalid = dropped
 
 unfoldable pub ranAs : Outcome → Ran

@@ -148,6 +148,9 @@ pub step-keeps : (m : Utf8) (b : ℕ) → Sound m → Ends Sound (pos 0) (stepOf
 unfolding stepOf
 step-keeps m b s = either Kept (eqb (m .need) 0) (λ e. lead-sound b) (λ e. trail-sound (m .need) (m .lo) (m .hi) b (omega (arith, most-needed m s)))
 
+pub step-live : (m n : Utf8) (b : ℕ) (s : ℤ) → Sound m → stepOf m b ≡ live n s → Sound n × (s ≡ pos 0)
+step-live m n b s h e = rw e at (step-keeps m b h)
+
 -- A stretch keeps what the kind can hold, and ends with the score that it began with, or none.
 pub run-keeps : (m : Utf8) (s : ℤ) (xs : List ℕ) → Sound m → Ends Sound s (run stepOf (live m s) xs)
 run-keeps m s xs h = run-ends stepOf Sound step-keeps s (live m s) xs (h, refl)

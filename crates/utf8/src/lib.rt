@@ -3,7 +3,7 @@ ghost use mathlib.Core.Path.{_≡_};
 ghost use mathlib.Core.Bool.{cond};
 ghost use lib.Dec.{eqb};
 ghost use Rattle.laws.specs.Run.{run};
-ghost use Rattle.utf8.specs.Utf8.{alive, closedOf, fresh, leadOf, nextCut, nextIn, outOf, ranAs, ranOf, soundB, stepOf};
+ghost use Rattle.utf8.specs.Utf8.{Sound, alive, closedOf, fresh, leadOf, nextCut, nextIn, outOf, ranAs, ranOf, soundB, stepOf};
 
 // Between two bytes: how many more the sequence needs, and the range of the next one.
 pub struct Utf8 {
@@ -12,8 +12,9 @@ pub struct Utf8 {
     pub hi: u8,
 }
 
+// The record after a byte and the change of the score, which is 0; or none.
 enum Stepped {
-    Alive(Utf8),
+    Alive(Utf8, i64),
     Invalid,
 }
 
@@ -82,31 +83,40 @@ impl Utf8 {
         ensures { λ r. ⌜ outOf r ≡ leadOf b ⌝ }
     {
         if b < 0x80 {
-            return Stepped::Alive(Utf8::fresh());
+            return Stepped::Alive(Utf8::fresh(), 0);
         }
         if b < 0xC2 {
             return Stepped::Invalid;
         }
         if b < 0xE0 {
-            return Stepped::Alive(Utf8 {
-                need: 1,
-                lo: Utf8::LOWER,
-                hi: Utf8::UPPER,
-            });
+            return Stepped::Alive(
+                Utf8 {
+                    need: 1,
+                    lo: Utf8::LOWER,
+                    hi: Utf8::UPPER,
+                },
+                0,
+            );
         }
         if b < 0xF0 {
-            return Stepped::Alive(Utf8 {
-                need: 2,
-                lo: pick(b, 0xE0, 0xA0, Utf8::LOWER),
-                hi: pick(b, 0xED, 0x9F, Utf8::UPPER),
-            });
+            return Stepped::Alive(
+                Utf8 {
+                    need: 2,
+                    lo: pick(b, 0xE0, 0xA0, Utf8::LOWER),
+                    hi: pick(b, 0xED, 0x9F, Utf8::UPPER),
+                },
+                0,
+            );
         }
         if b < 0xF5 {
-            return Stepped::Alive(Utf8 {
-                need: 3,
-                lo: pick(b, 0xF0, 0x90, Utf8::LOWER),
-                hi: pick(b, 0xF4, 0x8F, Utf8::UPPER),
-            });
+            return Stepped::Alive(
+                Utf8 {
+                    need: 3,
+                    lo: pick(b, 0xF0, 0x90, Utf8::LOWER),
+                    hi: pick(b, 0xF4, 0x8F, Utf8::UPPER),
+                },
+                0,
+            );
         }
         Stepped::Invalid
     }
@@ -124,20 +134,24 @@ impl Utf8 {
         if self.hi < b {
             return Stepped::Invalid;
         }
-        Stepped::Alive(Utf8 {
-            need: need - 1,
-            lo: Utf8::LOWER,
-            hi: Utf8::UPPER,
-        })
+        Stepped::Alive(
+            Utf8 {
+                need: need - 1,
+                lo: Utf8::LOWER,
+                hi: Utf8::UPPER,
+            },
+            0,
+        )
     }
 
     fn go(self, part: &[u8]) -> Ran
+        requires { ⌜ Sound self ⌝ }
         ensures { λ r. ⌜ r ≡ ranAs (run stepOf (alive self) (now (part .entry))) ⌝ }
     {
         let mut m = self;
         let mut i = 0;
         while i < part.len() {
-            let Stepped::Alive(next) = m.step(part[i]) else {
+            let Stepped::Alive(next, _) = m.step(part[i]) else {
                 return Ran::Dropped;
             };
             m = next;

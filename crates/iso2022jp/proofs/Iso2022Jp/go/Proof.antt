@@ -6,9 +6,10 @@ use native.Mathlib.Omega.{arith}
 use borrow.Author.Needs.{needs}
 use lib.IntN.{pos}
 use lib.ListN.{length, drop, getD, length-drop}
-use Rattle.laws.specs.Run.{run, run-done, turn-live, turn-none}
+use Rattle.laws.specs.Run.{live, run, run-done, turn-none}
+use Rattle.laws.specs.Still.{turn-still}
 use Rattle.iso2022jp.specs.Iso2022Jp.{Sound, alive, outOf, ranAs, stepOf}
-use Rattle.iso2022jp.specs.Iso2022JpLaws.{step-sound}
+use Rattle.iso2022jp.specs.Iso2022JpLaws.{step-live}
 use Rattle.iso2022jp.proofs.Iso2022Jp.go.Statement.{statement}
 use Rattle.iso2022jp.proofs.Iso2022Jp.go.Tie as tie
 
@@ -56,8 +57,12 @@ loop-again c =
     let t = c .before .before .before .before .before in
     let l = t .before in
     let a = l .before .before .before .args in
-    let e = sym (c .before .before .before .step .ensures) ∙ ap outOf (c .before .next .given .1) in
-    (omega arith, (step-sound (a .index .now) (l .loop .m) _ (getD (a .part .now) (l .loop .i) 0) (pos 0) e, turn-live (stepOf (a .index .now)) (l .loop .m) (pos 0) (a .part .now) (l .loop .i) (t .loop-test .taken) _ (pos 0) e ∙ l .loop .inv .1 .1))
+    let f = stepOf (a .index .now) in
+    let n = c .before .next .given .0 .0 in
+    let g = c .before .next .given .0 .1 .0 in
+    let e : f (l .loop .m) (getD (a .part .now) (l .loop .i) 0) ≡ live n g = sym (c .before .before .before .step .ensures) ∙ ap outOf (c .before .next .given .1) in
+    let k = step-live (a .index .now) (l .loop .m) n (getD (a .part .now) (l .loop .i) 0) g e in
+    (omega arith, (k .0, turn-still f (l .loop .m) n g (a .part .now) (l .loop .i) (t .loop-test .taken) e (k .1) ∙ l .loop .inv .1 .1))
 
 returns-2 : tie.Need-returns-2 Inv-loop μ-loop
 unfolding ranAs

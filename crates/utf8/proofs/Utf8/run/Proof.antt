@@ -1,22 +1,25 @@
 -- `Utf8::run` meets its contract. Assumes nothing.
 use mathlib.Core.Path.{sym, _∙_}
 use borrow.Author.Needs.{needs}
+use Rattle.utf8.specs.Utf8.{Ready}
 use Rattle.utf8.specs.Utf8Laws.{true-sound, ran-ready, ran-unsound, ran-long}
 use Rattle.utf8.proofs.Utf8.run.Statement.{statement}
 use Rattle.utf8.proofs.Utf8.run.Tie as tie
+
+-- past the two tests all is fit
+ready : (c : tie.Then2) → (let a = c .before .before .before .before .args in Ready (a .self) (a .part .now))
+ready c =
+    let t = c .before in
+    record { sound = true-sound (t .before .before .before .args .self) (sym (t .before .is-sound .ensures) ∙ t .if1 .taken); short = c .if2 .taken }
 
 is-sound-requires : tie.Need-is-sound-requires
 is-sound-requires c κs = search needs
 
 go-requires : tie.Need-go-requires
-go-requires c κs = search needs
+go-requires c κs = ready c .sound
 
 returns : tie.Need-returns
-returns c =
-    let t = c .before .before in
-    let a = t .before .before .before .args in
-    let o = true-sound (a .self) (sym (t .before .is-sound .ensures) ∙ t .if1 .taken) in
-    c .go .ensures ∙ sym (ran-ready (a .self) (a .part .now) (record { sound = o; short = c .before .if2 .taken }))
+returns c = c .go .ensures ∙ sym (ran-ready _ _ (ready (c .before)))
 
 returns-2 : tie.Need-returns-2
 returns-2 c =
