@@ -160,6 +160,10 @@ stepIn index Escape m b = escapeOf m b
 abbrev pub stepOf : List ℕ → Iso2022Jp → ℕ → Outcome
 stepOf index m b = stepIn index (m .state) m b
 
+-- the byte leaves the record as it is
+unfoldable pub Passes : Iso2022Jp → ℕ → Type 0
+Passes m b = (index : List ℕ) → stepOf index m b ≡ alive m
+
 -- ---- the end of the stream
 unfoldable pub closeIn : DecoderState → Iso2022Jp → Outcome
 closeIn Ascii m = alive m

@@ -1,14 +1,14 @@
 -- What holds of the ISO-2022-JP machine's definitions, and each way through the code. Assumes nothing.
-use mathlib.Core.Path.{_≡_, refl}
-use mathlib.Core.Bool.{Bool, true, false, _||_, and-false}
+use mathlib.Core.Path.{_≡_, refl, sym, ap, subst, _∙_}
+use mathlib.Core.Bool.{Bool, true, false, not, _||_, and-false}
 use mathlib.Core.List.{List, [], _∷_, _++_}
 use mathlib.Core.Logic.{_⊎_, inl, inr}
 use Prim.Native.Nat.{ℕ, _<_, _≤_}
 use native.Mathlib.Omega.{arith}
-use lib.Dec.{eqb, leb}
+use lib.Dec.{eqb, leb, ltb}
 use lib.IntN.{ℤ, pos}
 use lib.ListN.{length}
-use borrow.Author.Tests.{eq-eqb, ne-eqb, eqb-true, le-leb, lt-leb, leb-true, leb-false}
+use borrow.Author.Tests.{eq-eqb, ne-eqb, eqb-true, le-leb, lt-leb, leb-true, leb-false, ltb-true, ltb-false, not-true}
 use Rattle.laws.specs.Lists.{any, isIn}
 use Rattle.laws.specs.Limit.{most}
 use Rattle.laws.specs.Run.{live, run, run-append}
@@ -25,7 +25,7 @@ use Rattle.iso2022jp.specs.declared.Designated.the-variants.{To, Nothing
 use Rattle.iso2022jp.specs.declared.Iso2022Jp.{Iso2022Jp}
 use Rattle.iso2022jp.specs.declared.Ran.{Ran}
 use Rattle.iso2022jp.specs.declared.Ran.the-variants.{Unfit}
-use Rattle.iso2022jp.specs.Iso2022Jp.{Outcome, holds, fresh, LeadIn, Sound, leadsEscape, leadInB, soundB, entries, mapped, indexedBy, alive, escapeByte, putOut, isText, asciiOf, rangedOf, pairAt, trailOf, escapeStartOf, designated, stateOf, escapedTo, stepIn, stepOf, closeOf, ranAs, Ready, readyB, ranOf, closedOf}
+use Rattle.iso2022jp.specs.Iso2022Jp.{Outcome, Passes, holds, fresh, LeadIn, Sound, leadsEscape, leadInB, soundB, entries, mapped, indexedBy, alive, escapeByte, putOut, isText, asciiOf, rangedOf, pairAt, trailOf, escapeStartOf, designated, stateOf, escapedTo, stepIn, stepOf, closeOf, ranAs, Ready, readyB, ranOf, closedOf}
 
 -- ---- an entry of the index, each way through the code
 module _ (entry : ℕ) where
@@ -45,27 +45,41 @@ module _ (entry : ℕ) where
   unfolding mapped
   mapped-second p = rw (above 0x80 0xD7FF entry (omega arith), le-leb 0xE000 entry p)
 
--- ---- a byte in ASCII and Roman, each way through the code
+-- ---- a byte in ASCII and Roman
 module _ (b : ℕ) where
-  pub text-not : isIn (0x0E ∷ 0x0F ∷ escapeByte ∷ []) b ≡ true → isText b ≡ false
-  unfolding isText
-  text-not e = rw (e, and-false)
-
-  pub text-shift-out : b ≡ 0x0E → isText b ≡ false
-  unfolding any
-  text-shift-out e = text-not (rw (eq-eqb _ _ e))
-
-  pub text-shift-in : (b ≡ 0x0E → ⊥) → b ≡ 0x0F → isText b ≡ false
-  unfolding any
-  text-shift-in f e = text-not (rw (ne-eqb _ _ f, eq-eqb _ _ e))
-
-  pub text-non-ascii : 0x80 ≤ b → isText b ≡ false
+  text-non-ascii : 0x80 ≤ b → isText b ≡ false
   unfolding isText
   text-non-ascii h = rw (above 0x00 0x7F b h)
 
-  pub text-is : (b ≡ escapeByte → ⊥) → (b ≡ 0x0E → ⊥) → (b ≡ 0x0F → ⊥) → b < 0x80 → isText b ≡ true
+  pub text-rest : (b ≡ escapeByte → ⊥) → (b ≡ 0x0E → ⊥) → (b ≡ 0x0F → ⊥) → ltb b 0x80 ≡ isText b
   unfolding isText any
-  text-is e f g h = rw (inside 0x00 0x7F b (omega arith) (omega arith), ne-eqb _ _ f, ne-eqb _ _ g, ne-eqb _ _ e)
+  text-rest e f g = at (ltb b 0x80) refl
+    where
+      at : (t : Bool) → ltb b 0x80 ≡ t → t ≡ isText b
+      at true q =
+          let h = ltb-true b 0x80 q in
+          rw (inside 0x00 0x7F b (omega arith) (omega arith), ne-eqb _ _ f, ne-eqb _ _ g, ne-eqb _ _ e)
+      at false q = sym (text-non-ascii (ltb-false b 0x80 q))
+
+  -- text is no escape
+  text-escape : isText b ≡ true → eqb b escapeByte ≡ false
+  unfolding isText any
+  text-escape e =
+      let q = not-true (isIn (0x0E ∷ 0x0F ∷ escapeByte ∷ []) b) (both (between 0x00 0x7F b) (not (isIn (0x0E ∷ 0x0F ∷ escapeByte ∷ []) b)) e .1) in
+      let r = neither (eqb b 0x0E) _ q in
+      let t = neither (eqb b 0x0F) _ (r .1) in
+      neither (eqb b escapeByte) false (t .1) .0
+
+passes-at : (out : OutputState) (b : ℕ) → isText b ≡ true → Passes (holds Ascii out 0 false) b
+unfolding Passes stepIn asciiOf
+passes-at out b t index = rw (text-escape b t, t)
+
+-- text of plain ASCII leaves the record as it is
+pub text-passes : (m : Iso2022Jp) (b : ℕ) → Sound m → m .state ≡ Ascii → m .output ≡ false → isText b ≡ true → Passes m b
+text-passes m b h e o t =
+    let l : m .lead ≡ 0 = subst (λ (st : DecoderState). LeadIn st (m .lead)) e h in
+    let r : holds Ascii (m .out) 0 false ≡ m = ap (λ (st : DecoderState). holds st (m .out) 0 false) (sym e) ∙ (ap (λ (n : ℕ). holds (m .state) (m .out) n false) (sym l) ∙ ap (holds (m .state) (m .out) (m .lead)) (sym o)) in
+    subst (λ (n : Iso2022Jp). Passes n b) r (passes-at (m .out) b t)
 
 -- ---- an escape to lead byte
 pub lead-byte-designated : (lead b : ℕ) → lead ≡ 0x24 → (b ≡ 0x40) ⊎ (b ≡ 0x42) → To OutLeadByte ≡ designated lead b
@@ -173,17 +187,15 @@ module _ (index : List ℕ) where
 abbrev pub stirs : ℕ → Bool
 stirs b = nonAscii b || isIn (0x0E ∷ 0x0F ∷ escapeByte ∷ []) b
 
-quiet-text : (b : ℕ) → stirs b ≡ false → (eqb b escapeByte ≡ false) × (isText b ≡ true)
-unfolding isText any
+quiet-text : (b : ℕ) → stirs b ≡ false → isText b ≡ true
+unfolding isText
 quiet-text b e =
     let q = neither (nonAscii b) _ e in
-    let r = neither (eqb b 0x0E) _ (q .1) in
-    let t = neither (eqb b 0x0F) _ (r .1) in
-    (neither (eqb b escapeByte) false (t .1) .0, rw (inside 0x00 0x7F b (omega arith) (omega (arith, leb-false 0x80 b (q .0))), q .1))
+    rw (inside 0x00 0x7F b (omega arith) (omega (arith, leb-false 0x80 b (q .0))), q .1)
 
 pub ascii-stays : (index : List ℕ) (s : ℤ) (xs : List ℕ) → any stirs xs ≡ false → run (stepOf index) (live fresh s) xs ≡ live fresh s
-unfolding stepIn asciiOf
-ascii-stays index s xs e = run-stays (stepOf index) fresh stirs (λ (b : ℕ) (q : stirs b ≡ false). rw (quiet-text b q .0, quiet-text b q .1)) s xs e
+unfolding Passes
+ascii-stays index s xs e = run-stays (stepOf index) fresh stirs (λ (b : ℕ) (q : stirs b ≡ false). passes-at OutAscii b (quiet-text b q) index) s xs e
 
 -- ---- what a call gives
 module _ (index : List ℕ) (m : Iso2022Jp) (xs : List ℕ) where

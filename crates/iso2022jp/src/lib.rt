@@ -1,10 +1,11 @@
 // The ISO-2022-JP validator: dropped at the first byte that the Encoding Standard's decoder calls an error.
 ghost use mathlib.Core.Path.{_≡_};
+ghost use mathlib.Core.Bool.{true};
 ghost use Prim.Native.Nat.{_≤_};
 ghost use lib.ListN.{length};
 ghost use Rattle.laws.specs.Run.{run};
 ghost use Rattle.octets.specs.Octets.{between};
-ghost use Rattle.iso2022jp.specs.Iso2022Jp.{Sound, alive, asciiOf, closedOf, designated, entries, escapeOf, escapeStartOf, fresh, katakanaOf, leadOf, leadsEscape, mapped, outOf, ranAs, ranOf, rangedOf, soundB, started, stateOf, stepOf, trailOf};
+ghost use Rattle.iso2022jp.specs.Iso2022Jp.{Sound, Passes, alive, asciiOf, closedOf, designated, entries, escapeOf, escapeStartOf, fresh, isText, katakanaOf, leadOf, leadsEscape, mapped, outOf, ranAs, ranOf, rangedOf, soundB, started, stateOf, stepOf, trailOf};
 
 pub enum DecoderState {
     Ascii,
@@ -66,6 +67,22 @@ fn is_escape_lead(b: u8) -> bool
         return true;
     }
     b == 0x28
+}
+
+// Whether ASCII and Roman put the byte out.
+fn is_text(b: u8) -> bool
+    ensures { λ r. ⌜ r ≡ isText b ⌝ }
+{
+    if b == Iso2022Jp::ESCAPE {
+        return false;
+    }
+    if b == 0x0E {
+        return false;
+    }
+    if b == 0x0F {
+        return false;
+    }
+    b < 0x80
 }
 
 // Whether an entry of the index is a code point.
@@ -169,26 +186,33 @@ impl Iso2022Jp {
         if b == Iso2022Jp::ESCAPE {
             return self.start_escape();
         }
-        if b == 0x0E {
-            return Stepped::Invalid;
-        }
-        if b == 0x0F {
-            return Stepped::Invalid;
-        }
-        if 0x80 <= b {
-            return Stepped::Invalid;
-        }
-        let state = self.state;
-        let out = self.out;
-        Stepped::Alive(
-            Iso2022Jp {
+        if is_text(b) {
+            let state = self.state;
+            let out = self.out;
+            let next = Iso2022Jp {
                 state,
                 out,
                 lead: 0,
                 output: false,
-            },
-            0,
-        )
+            };
+            return Stepped::Alive(next, 0);
+        }
+        Stepped::Invalid
+    }
+
+    // Whether the byte is text of plain ASCII, which leaves the record as it is: the loop's short way.
+    fn passes(self, b: u8) -> bool
+        requires { ⌜ Sound self ⌝ }
+        ensures { λ r. ⌜ (r ≡ true → Passes self b) ⌝ }
+    {
+        let state = self.state;
+        let DecoderState::Ascii = state else {
+            return false;
+        };
+        if self.output {
+            return false;
+        }
+        is_text(b)
     }
 
     // A byte from 0x21 to the highest gives the next record.
@@ -315,7 +339,12 @@ impl Iso2022Jp {
         let mut m = self;
         let mut i = 0;
         while i < part.len() {
-            let Stepped::Alive(next, _) = m.step(part[i], index) else {
+            let b = part[i];
+            if m.passes(b) {
+                i += 1;
+                continue;
+            }
+            let Stepped::Alive(next, _) = m.step(b, index) else {
                 return Ran::Dropped;
             };
             m = next;
