@@ -3,7 +3,7 @@ ghost use mathlib.Core.Path.{_≡_};
 ghost use mathlib.Core.Bool.{cond};
 ghost use lib.Dec.{eqb};
 ghost use Rattle.laws.specs.Run.{run};
-ghost use Rattle.utf8.specs.Utf8.{Sound, alive, closedOf, fresh, leadOf, nextCut, nextIn, outOf, ranAs, ranOf, soundB, stepOf};
+ghost use Rattle.utf8.specs.Utf8.{Sound, alive, closedOf, fresh, leadOf, needs, nextCut, nextIn, outOf, ranAs, ranOf, soundB, stepOf};
 
 // Between two bytes: how many more the sequence needs, and the range of the next one.
 pub struct Utf8 {
@@ -78,44 +78,37 @@ impl Utf8 {
         false
     }
 
+    fn awaits(need: u8, lo: u8, hi: u8) -> Stepped
+        ensures { λ r. ⌜ outOf r ≡ alive (needs need lo hi) ⌝ }
+    {
+        Stepped::Alive(Utf8 { need, lo, hi }, 0)
+    }
+
     // A byte where a sequence begins.
     fn lead(b: u8) -> Stepped
         ensures { λ r. ⌜ outOf r ≡ leadOf b ⌝ }
     {
         if b < 0x80 {
-            return Stepped::Alive(Utf8::fresh(), 0);
+            return Utf8::awaits(0, Utf8::LOWER, Utf8::UPPER);
         }
         if b < 0xC2 {
             return Stepped::Invalid;
         }
         if b < 0xE0 {
-            return Stepped::Alive(
-                Utf8 {
-                    need: 1,
-                    lo: Utf8::LOWER,
-                    hi: Utf8::UPPER,
-                },
-                0,
-            );
+            return Utf8::awaits(1, Utf8::LOWER, Utf8::UPPER);
         }
         if b < 0xF0 {
-            return Stepped::Alive(
-                Utf8 {
-                    need: 2,
-                    lo: pick(b, 0xE0, 0xA0, Utf8::LOWER),
-                    hi: pick(b, 0xED, 0x9F, Utf8::UPPER),
-                },
-                0,
+            return Utf8::awaits(
+                2,
+                pick(b, 0xE0, 0xA0, Utf8::LOWER),
+                pick(b, 0xED, 0x9F, Utf8::UPPER),
             );
         }
         if b < 0xF5 {
-            return Stepped::Alive(
-                Utf8 {
-                    need: 3,
-                    lo: pick(b, 0xF0, 0x90, Utf8::LOWER),
-                    hi: pick(b, 0xF4, 0x8F, Utf8::UPPER),
-                },
-                0,
+            return Utf8::awaits(
+                3,
+                pick(b, 0xF0, 0x90, Utf8::LOWER),
+                pick(b, 0xF4, 0x8F, Utf8::UPPER),
             );
         }
         Stepped::Invalid
@@ -134,14 +127,7 @@ impl Utf8 {
         if self.hi < b {
             return Stepped::Invalid;
         }
-        Stepped::Alive(
-            Utf8 {
-                need: need - 1,
-                lo: Utf8::LOWER,
-                hi: Utf8::UPPER,
-            },
-            0,
-        )
+        Utf8::awaits(need - 1, Utf8::LOWER, Utf8::UPPER)
     }
 
     fn go(self, part: &[u8]) -> Ran

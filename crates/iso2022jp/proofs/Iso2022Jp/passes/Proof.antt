@@ -1,5 +1,5 @@
 -- `Iso2022Jp::passes` meets its contract. Assumes nothing.
-use mathlib.Core.Path.{_≡_, sym, _∙_}
+use mathlib.Core.Path.{sym, _∙_}
 use mathlib.Core.Bool.{true, false, false≢true}
 use borrow.Author.Needs.{needs}
 use Rattle.iso2022jp.specs.Iso2022JpLaws.{text-passes}

@@ -23,13 +23,17 @@ returns-3 c =
     let e = c .before .before .before .before in
     step-above (e .before .args .self) (e .before .args .b) (e .if1 .left) (c .if3 .taken)
 
-sub-t5 : tie.Need-sub-t5
-sub-t5 c = search needs
+sub-awaits : tie.Need-sub-awaits
+sub-awaits c = search needs
+
+awaits-requires : tie.Need-awaits-requires
+awaits-requires c κs = search needs
 
 returns-4 : tie.Need-returns-4
 returns-4 c =
-    let e = c .before .before .before .before in
-    step-within (e .before .args .self) (e .before .args .b) (e .if1 .left) (c .before .before .if2 .left) (c .if3 .left)
+    let n = c .before in
+    let e = n .before .before .before .before in
+    c .awaits .ensures ∙ step-within (e .before .args .self) (e .before .args .b) (e .if1 .left) (n .before .before .if2 .left) (n .if3 .left)
 
 pub step-spec : {M : Type 1} → statement M
-step-spec = tie.close (tie.spec lead-requires returns returns-2 returns-3 sub-t5 returns-4)
+step-spec = tie.close (tie.spec lead-requires returns returns-2 returns-3 sub-awaits awaits-requires returns-4)
