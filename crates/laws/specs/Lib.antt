@@ -2,8 +2,12 @@
 pub mod Arms
 pub mod Determined
 pub mod Going
+pub mod Limit
 pub mod Lists
 pub mod Memory
 pub mod Run
 pub mod Sizes
+pub mod Still
 pub mod Table
+pub mod Tests
+pub mod Validator

@@ -1,7 +1,7 @@
 -- Quiet bytes: a machine neither drops nor scores at them, and forgets all of them but the last two. So a stretch of them
 -- leaves what its last two leave. Assumes nothing.
 use mathlib.Core.Path.{_≡_, refl, sym, ap, _∙_}
-use mathlib.Core.Bool.{Bool, true, false, _&&_}
+use mathlib.Core.Bool.{Bool, true, _&&_}
 use mathlib.Core.List.{List, [], _∷_}
 use Prim.Native.Nat.{ℕ, zero, suc, _-_, _≤_}
 use native.Mathlib.Nat.{not-suc-le-zero}
@@ -10,24 +10,21 @@ use lib.IntN.{ℤ, pos, +ℤ-idr}
 use lib.ListN.{length, drop, length-drop}
 use Rattle.laws.specs.Lists.{last, last-append, last-short}
 use Rattle.laws.specs.Run.{Out, live, plus, feed, run}
+use Rattle.laws.specs.Tests.{both}
 
 -- each of the bytes passes
 unfoldable pub all : (ℕ → Bool) → List ℕ → Bool
 all q [] = true
 all q (b ∷ bs) = q b && all q bs
 
-pub and-true : (a b : Bool) → (a && b) ≡ true → (a ≡ true) × (b ≡ true)
-and-true true b e = (refl, e)
-and-true false b e = (e, cc)
-
 module _ (q : ℕ → Bool) where
   pub all-first : (b : ℕ) (bs : List ℕ) → all q (b ∷ bs) ≡ true → q b ≡ true
   unfolding all
-  all-first b bs e = and-true (q b) (all q bs) e .0
+  all-first b bs e = both (q b) (all q bs) e .0
 
   pub all-rest : (b : ℕ) (bs : List ℕ) → all q (b ∷ bs) ≡ true → all q bs ≡ true
   unfolding all
-  all-rest b bs e = and-true (q b) (all q bs) e .1
+  all-rest b bs e = both (q b) (all q bs) e .1
 
   all-drop : (n : ℕ) (bs : List ℕ) → all q bs ≡ true → all q (drop n bs) ≡ true
   all-drop zero bs e = e

@@ -1,1 +1,2 @@
+pub mod BetweenLaws
 pub mod Octets

@@ -3,7 +3,7 @@ use mathlib.Core.Bool.{Bool, _&&_}
 use mathlib.Core.Path.{_≡_}
 use Prim.Native.Nat.{ℕ, _<_, _≤_}
 use lib.Dec.{ltb, leb}
-use Rattle.weights.specs.Weights.{limit}
+use Rattle.laws.specs.Limit.{limit}
 use Rattle.single.specs.Lent.{Lent, Sized, sizedB}
 
 -- a count at the entry of a call is at most this, so that no run makes it wrap

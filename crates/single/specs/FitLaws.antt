@@ -8,8 +8,7 @@ use native.Mathlib.Omega.{arith}
 use lib.Dec.{ltb, leb}
 use lib.ListN.{length}
 use borrow.Author.Tests.{ltb-true, leb-true, eqb-true, lt-ltb, le-leb, eq-eqb}
-use Rattle.laws.specs.Memory.{and-true}
-use Rattle.weights.specs.Weights.{limit, weightCount}
+use Rattle.laws.specs.Tests.{both}
 use Rattle.single.specs.Class.{classOf, caselessOf}
 use Rattle.single.specs.Fit.{Common, commonB, Fit, fitB}
 use Rattle.single.specs.Lent.{Lent, Sized, sizedB}
@@ -20,9 +19,9 @@ use Rattle.single.specs.Words.{wordOf, longestOf}
 pub sized-true : (t : Lent) → sizedB t ≡ true → Sized t
 unfolding sizedB
 sized-true t e =
-    let a = and-true _ _ e in
-    let b = and-true _ _ (a .1) in
-    let c = and-true _ _ (b .1) in
+    let a = both _ _ e in
+    let b = both _ _ (a .1) in
+    let c = both _ _ (b .1) in
     record { classes-length = eqb-true _ _ (a .0); marks-length = eqb-true _ _ (b .0); pairs-length = eqb-true _ _ (c .0); weights-length = eqb-true _ _ (c .1) }
 
 pub true-sized : (t : Lent) → Sized t → sizedB t ≡ true
@@ -34,8 +33,8 @@ module _ (n prev word longest : ℕ) where
   pub common-true : commonB n prev word longest ≡ true → Common n prev word longest
   unfolding commonB
   common-true e =
-      let a = and-true _ _ e in
-      let b = and-true _ _ (a .1) in
+      let a = both _ _ e in
+      let b = both _ _ (a .1) in
       record { prev-below = ltb-true _ _ (a .0); word-most = leb-true _ _ (b .0); longest-most = leb-true _ _ (b .1) }
 
   pub true-common : Common n prev word longest → commonB n prev word longest ≡ true
@@ -49,8 +48,8 @@ module _ (n prev word longest : ℕ) where
 pub fit-true : (t : Lent) (S : Type 0) (sound : Bool) (bytes : ℕ) → (sound ≡ true → S) → fitB t sound bytes ≡ true → Fit t S bytes
 unfolding fitB
 fit-true t S sound bytes f e =
-    let a = and-true _ _ e in
-    let b = and-true _ _ (a .1) in
+    let a = both _ _ e in
+    let b = both _ _ (a .1) in
     record { sized = sized-true t (a .0); sound = f (b .0); short = leb-true _ _ (b .1) }
 
 pub true-fit : (t : Lent) (S : Type 0) (sound : Bool) (bytes : ℕ) → (S → sound ≡ true) → Fit t S bytes → fitB t sound bytes ≡ true

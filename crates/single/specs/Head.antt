@@ -8,8 +8,9 @@ use lib.Dec.{eqb}
 use lib.IntN.{ℤ, pos, _+ℤ_}
 use borrow.Author.Tests.{eqb-false, not-true}
 use Rattle.laws.specs.Lists.{last}
-use Rattle.laws.specs.Memory.{all, and-true, Quiet, after, quiet-run, quiet-last}
+use Rattle.laws.specs.Memory.{all, Quiet, after, quiet-run, quiet-last}
 use Rattle.laws.specs.Run.{Out, live, run}
+use Rattle.laws.specs.Tests.{both}
 use Rattle.octets.specs.Octets.{ascii}
 use Rattle.single.specs.Class.{classOf, caselessOf, alphabetic, latinLetter, isCapital}
 use Rattle.single.specs.ClassLaws.{not255}
@@ -34,13 +35,13 @@ quietAt t b = ascii b && (not (eqb (classOf t b) 255) && not (alphabetic t b))
 
 module _ (t : Lent) (b : ℕ) (q : quietAt t b ≡ true) where
   is-ascii : ascii b ≡ true
-  is-ascii = and-true (ascii b) _ q .0
+  is-ascii = both (ascii b) _ q .0
 
   not-255 : classOf t b ≡ 255 → ⊥
-  not-255 = eqb-false _ _ (not-true _ (and-true _ _ (and-true (ascii b) _ q .1) .0))
+  not-255 = eqb-false _ _ (not-true _ (both _ _ (both (ascii b) _ q .1) .0))
 
   no-letter : alphabetic t b ≡ false
-  no-letter = not-true _ (and-true (not (eqb (classOf t b) 255)) _ (and-true (ascii b) _ q .1) .1)
+  no-letter = not-true _ (both (not (eqb (classOf t b) 255)) _ (both (ascii b) _ q .1) .1)
 
 -- ---- what the four share: the fields stay as they are when fresh, but for the previous class
 pub record Still (prevAscii : Bool) (word longest : ℕ) : Type 0 where

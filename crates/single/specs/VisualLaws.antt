@@ -7,7 +7,7 @@ use native.Mathlib.Omega.{arith}
 use lib.IntN.{ℤ, pos}
 use lib.ListN.{length}
 use borrow.Author.Tests.{leb-true, le-leb}
-use Rattle.laws.specs.Memory.{and-true}
+use Rattle.laws.specs.Tests.{both}
 use Rattle.laws.specs.Run.{Out, none, live, run}
 use Rattle.single.specs.Class.{classOf, alphabetic}
 use Rattle.single.specs.ClassLaws.{at255, not255, live-is}
@@ -63,7 +63,7 @@ sound-more k n m h o =
 -- ---- the test decides, in both directions
 pub sound-true : (n : ℕ) (m : Visual) → soundB n m ≡ true → Sound n m
 sound-true n m e =
-    let a = and-true _ _ e in
+    let a = both _ _ e in
     record { punctuation-most = leb-true _ _ (a .0); common = common-true n _ _ _ (a .1) }
 
 pub true-sound : (n : ℕ) (m : Visual) → Sound n m → soundB n m ≡ true

@@ -55,7 +55,3 @@ term = 2147483648
 
 abbrev pub perByte : ℕ
 perByte = 5 * term
-
--- how many bytes a stream has at most
-abbrev pub limit : ℕ
-limit = 268435456

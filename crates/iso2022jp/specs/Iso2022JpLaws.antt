@@ -1,0 +1,246 @@
+-- What holds of the ISO-2022-JP machine's definitions, and each way through the code. Assumes nothing.
+use mathlib.Core.Path.{_≡_, refl, sym, ap, subst, _∙_}
+use mathlib.Core.Bool.{Bool, true, false, not, _||_, and-false}
+use mathlib.Core.List.{List, [], _∷_, _++_}
+use mathlib.Core.Logic.{_⊎_, inl, inr}
+use Prim.Native.Nat.{ℕ, _<_, _≤_}
+use native.Mathlib.Omega.{arith}
+use lib.Dec.{eqb, leb, ltb}
+use lib.IntN.{ℤ, pos}
+use lib.ListN.{length}
+use borrow.Author.Tests.{eq-eqb, ne-eqb, eqb-true, le-leb, lt-leb, leb-true, leb-false, ltb-true, ltb-false, not-true}
+use Rattle.laws.specs.Lists.{any, isIn}
+use Rattle.laws.specs.Limit.{limit}
+use Rattle.laws.specs.Run.{live, run, run-append}
+use Rattle.laws.specs.Still.{Ends, run-ends, run-stays}
+use Rattle.laws.specs.Tests.{both, neither, either}
+use Rattle.octets.specs.Octets.{between, nonAscii}
+use Rattle.octets.specs.BetweenLaws.{inside, below, above, between-low, between-high}
+use Rattle.iso2022jp.specs.declared.DecoderState.{DecoderState}
+use Rattle.iso2022jp.specs.declared.DecoderState.the-variants.{Ascii, Roman, Katakana, LeadByte, TrailByte, EscapeStart, Escape}
+use Rattle.iso2022jp.specs.declared.OutputState.{OutputState}
+use Rattle.iso2022jp.specs.declared.OutputState.the-variants.{Ascii as OutAscii, Roman as OutRoman, Katakana as OutKatakana, LeadByte as OutLeadByte}
+use Rattle.iso2022jp.specs.declared.Designated.{Designated}
+use Rattle.iso2022jp.specs.declared.Designated.the-variants.{To, Nothing}
+use Rattle.iso2022jp.specs.declared.Iso2022Jp.{Iso2022Jp}
+use Rattle.iso2022jp.specs.declared.Ran.{Ran}
+use Rattle.iso2022jp.specs.declared.Ran.the-variants.{Unfit}
+use Rattle.iso2022jp.specs.Iso2022Jp.{Outcome, Passes, holds, fresh, LeadIn, Sound, leadsEscape, leadInB, soundB, entries, mapped, indexedBy, alive, escapeByte, putOut, isText, asciiOf, rangedOf, pairAt, trailOf, escapeStartOf, designated, stateOf, escapedTo, stepIn, stepOf, closeOf, ranAs, Ready, readyB, ranOf, closedOf}
+
+-- ---- an entry of the index, each way through the code
+module _ (entry : ℕ) where
+  pub mapped-low : entry < 0x80 → false ≡ mapped entry
+  unfolding mapped
+  mapped-low h = rw (below 0x80 0xD7FF entry h, below 0xE000 0xFFFF entry (omega arith))
+
+  pub mapped-first : 0x80 ≤ entry → entry ≤ 0xD7FF → true ≡ mapped entry
+  unfolding mapped
+  mapped-first p q = rw (inside 0x80 0xD7FF entry p q)
+
+  pub mapped-gap : 0xD7FF < entry → entry < 0xE000 → false ≡ mapped entry
+  unfolding mapped
+  mapped-gap p q = rw (above 0x80 0xD7FF entry p, below 0xE000 0xFFFF entry q)
+
+  pub mapped-second : 0xE000 ≤ entry → leb entry 0xFFFF ≡ mapped entry
+  unfolding mapped
+  mapped-second p = rw (above 0x80 0xD7FF entry (omega arith), le-leb 0xE000 entry p)
+
+-- ---- a byte in ASCII and Roman
+module _ (b : ℕ) where
+  text-non-ascii : 0x80 ≤ b → isText b ≡ false
+  unfolding isText
+  text-non-ascii h = rw (above 0x00 0x7F b h)
+
+  pub text-rest : (b ≡ escapeByte → ⊥) → (b ≡ 0x0E → ⊥) → (b ≡ 0x0F → ⊥) → ltb b 0x80 ≡ isText b
+  unfolding isText any
+  text-rest e f g = at (ltb b 0x80) refl
+    where
+      at : (t : Bool) → ltb b 0x80 ≡ t → t ≡ isText b
+      at true q =
+          let h = ltb-true b 0x80 q in
+          rw (inside 0x00 0x7F b (omega arith) (omega arith), ne-eqb _ _ f, ne-eqb _ _ g, ne-eqb _ _ e)
+      at false q = sym (text-non-ascii (ltb-false b 0x80 q))
+
+  -- text is no escape
+  text-escape : isText b ≡ true → eqb b escapeByte ≡ false
+  unfolding isText any
+  text-escape e =
+      let q = not-true (isIn (0x0E ∷ 0x0F ∷ escapeByte ∷ []) b) (both (between 0x00 0x7F b) (not (isIn (0x0E ∷ 0x0F ∷ escapeByte ∷ []) b)) e .1) in
+      let r = neither (eqb b 0x0E) _ q in
+      let t = neither (eqb b 0x0F) _ (r .1) in
+      neither (eqb b escapeByte) false (t .1) .0
+
+passes-at : (out : OutputState) (b : ℕ) → isText b ≡ true → Passes (holds Ascii out 0 false) b
+unfolding Passes stepIn asciiOf
+passes-at out b t index = rw (text-escape b t, t)
+
+-- text of plain ASCII leaves the record as it is
+pub text-passes : (m : Iso2022Jp) (b : ℕ) → Sound m → m .state ≡ Ascii → m .output ≡ false → isText b ≡ true → Passes m b
+text-passes m b h e o t =
+    let l : m .lead ≡ 0 = subst (λ (st : DecoderState). LeadIn st (m .lead)) e h in
+    let r : holds Ascii (m .out) 0 false ≡ m = ap (λ (st : DecoderState). holds st (m .out) 0 false) (sym e) ∙ (ap (λ (n : ℕ). holds (m .state) (m .out) n false) (sym l) ∙ ap (holds (m .state) (m .out) (m .lead)) (sym o)) in
+    subst (λ (n : Iso2022Jp). Passes n b) r (passes-at (m .out) b t)
+
+-- ---- an escape to lead byte
+pub lead-byte-designated : (lead b : ℕ) → lead ≡ 0x24 → (b ≡ 0x40) ⊎ (b ≡ 0x42) → To OutLeadByte ≡ designated lead b
+unfolding designated
+lead-byte-designated lead b l (inl e) = rw (l, e)
+lead-byte-designated lead b l (inr e) = rw (l, e)
+
+-- ---- what the kind can hold: the test decides it, both ways
+lead-true : (state : DecoderState) (lead : ℕ) → LeadIn state lead → leadInB state lead ≡ true
+unfolding leadInB
+lead-true Ascii lead h = eq-eqb _ _ h
+lead-true Roman lead h = eq-eqb _ _ h
+lead-true Katakana lead h = eq-eqb _ _ h
+lead-true LeadByte lead h = eq-eqb _ _ h
+lead-true TrailByte lead h = inside 0x21 0x7E lead (h .0) (h .1)
+lead-true EscapeStart lead h = eq-eqb _ _ h
+lead-true Escape lead (inl h) = rw (eq-eqb _ _ h)
+lead-true Escape lead (inr h) = rw h
+
+pub escape-lead : (b : ℕ) → leadsEscape b ≡ true → (b ≡ 0x24) ⊎ (b ≡ 0x28)
+escape-lead b h = at (eqb b 0x24) refl h
+  where
+    at : (t : Bool) → eqb b 0x24 ≡ t → (t || eqb b 0x28) ≡ true → (b ≡ 0x24) ⊎ (b ≡ 0x28)
+    at true e f = inl (eqb-true _ _ e)
+    at false e f = inr (eqb-true _ _ f)
+
+true-lead : (state : DecoderState) (lead : ℕ) → leadInB state lead ≡ true → LeadIn state lead
+unfolding leadInB
+true-lead Ascii lead h = eqb-true _ _ h
+true-lead Roman lead h = eqb-true _ _ h
+true-lead Katakana lead h = eqb-true _ _ h
+true-lead LeadByte lead h = eqb-true _ _ h
+true-lead TrailByte lead h = (between-low _ _ _ h, between-high _ _ _ h)
+true-lead EscapeStart lead h = eqb-true _ _ h
+true-lead Escape lead h = escape-lead lead h
+
+pub sound-true : (m : Iso2022Jp) → Sound m → soundB m ≡ true
+sound-true m h = lead-true (m .state) (m .lead) h
+
+pub true-sound : (m : Iso2022Jp) → soundB m ≡ true → Sound m
+true-sound m h = true-lead (m .state) (m .lead) h
+
+pub fresh-sound : Sound fresh
+fresh-sound = refl
+
+-- ---- a step keeps it, and changes no score
+abbrev Kept : Outcome → Type 0
+Kept o = Ends Sound (pos 0) o
+
+module _ (m : Iso2022Jp) (b : ℕ) where
+  ascii-keeps : (state : DecoderState) → LeadIn state 0 → Kept (asciiOf state m b)
+  unfolding asciiOf
+  ascii-keeps state h = either Kept (eqb b escapeByte) (λ e. (refl, refl)) (λ e. either Kept (isText b) (λ e. (h, refl)) (λ e. tt))
+
+  ranged-keeps : (next : Iso2022Jp) (high : ℕ) → (between 0x21 high b ≡ true → Sound next) → Kept (rangedOf m next high b)
+  unfolding rangedOf
+  ranged-keeps next high h = either Kept (eqb b escapeByte) (λ e. (refl, refl)) (λ e. either Kept (between 0x21 high b) (λ e. (h e, refl)) (λ e. tt))
+
+  trail-keeps : (index : List ℕ) → Kept (trailOf index m b)
+  unfolding trailOf
+  trail-keeps index = either Kept (between 0x21 0x7E b) (λ e. either Kept (indexedBy index (pairAt (m .lead) b)) (λ e. (refl, refl)) (λ e. tt)) (λ e. tt)
+
+  start-keeps : Kept (escapeStartOf m b)
+  unfolding escapeStartOf
+  start-keeps = either Kept (leadsEscape b) (λ e. (escape-lead b e, refl)) (λ e. tt)
+
+state-lead : (o : OutputState) → LeadIn (stateOf o) 0
+unfolding stateOf
+state-lead OutAscii = refl
+state-lead OutRoman = refl
+state-lead OutKatakana = refl
+state-lead OutLeadByte = refl
+
+escaped-keeps : (output : Bool) (t : Designated) → Kept (escapedTo output t)
+unfolding escapedTo
+escaped-keeps output Nothing = tt
+escaped-keeps output (To o) = either Kept output (λ e. tt) (λ e. (state-lead o, refl))
+
+in-keeps : (index : List ℕ) (state : DecoderState) (m : Iso2022Jp) (b : ℕ) → Kept (stepIn index state m b)
+unfolding stepIn
+in-keeps index Ascii m b = ascii-keeps m b Ascii refl
+in-keeps index Roman m b = ascii-keeps m b Roman refl
+in-keeps index Katakana m b = ranged-keeps m b (putOut Katakana m) 0x5F (λ e. refl)
+in-keeps index LeadByte m b = ranged-keeps m b (holds TrailByte (m .out) b false) 0x7E (λ e. (between-low 0x21 0x7E b e, between-high 0x21 0x7E b e))
+in-keeps index TrailByte m b = trail-keeps m b index
+in-keeps index EscapeStart m b = start-keeps m b
+in-keeps index Escape m b = escaped-keeps (m .output) (designated (m .lead) b)
+
+pub step-keeps : (index : List ℕ) (m : Iso2022Jp) (b : ℕ) → Sound m → Ends Sound (pos 0) (stepOf index m b)
+step-keeps index m b h = in-keeps index (m .state) m b
+
+pub step-live : (index : List ℕ) (m n : Iso2022Jp) (b : ℕ) (s : ℤ) → stepOf index m b ≡ live n s → Sound n × (s ≡ pos 0)
+step-live index m n b s e = rw e at (in-keeps index (m .state) m b)
+
+module _ (index : List ℕ) where
+  -- A stretch keeps what the kind can hold, and ends with the score that it began with, or none.
+  pub run-keeps : (m : Iso2022Jp) (s : ℤ) (xs : List ℕ) → Sound m → Ends Sound s (run (stepOf index) (live m s) xs)
+  run-keeps m s xs h = run-ends (stepOf index) Sound (step-keeps index) s (live m s) xs (h, refl)
+
+  -- ---- joining, by the law of every machine
+  pub run-joins : (o : Outcome) (xs ys : List ℕ) → run (stepOf index) o (xs ++ ys) ≡ run (stepOf index) (run (stepOf index) o xs) ys
+  run-joins o xs ys = run-append (stepOf index) o xs ys
+
+-- ---- ASCII without escape, shift out and shift in leaves the record fresh
+abbrev pub stirs : ℕ → Bool
+stirs b = nonAscii b || isIn (0x0E ∷ 0x0F ∷ escapeByte ∷ []) b
+
+quiet-text : (b : ℕ) → stirs b ≡ false → isText b ≡ true
+unfolding isText
+quiet-text b e =
+    let q = neither (nonAscii b) _ e in
+    rw (inside 0x00 0x7F b (omega arith) (omega (arith, leb-false 0x80 b (q .0))), q .1)
+
+pub ascii-stays : (index : List ℕ) (s : ℤ) (xs : List ℕ) → any stirs xs ≡ false → run (stepOf index) (live fresh s) xs ≡ live fresh s
+unfolding Passes
+ascii-stays index s xs e = run-stays (stepOf index) fresh stirs (λ (b : ℕ) (q : stirs b ≡ false). passes-at OutAscii b (quiet-text b q) index) s xs e
+
+-- ---- what a call gives
+module _ (index : List ℕ) (m : Iso2022Jp) (xs : List ℕ) where
+  pub ready-true : Ready index m xs → readyB index m xs ≡ true
+  unfolding readyB
+  ready-true r = rw (sound-true m (r .sound), eq-eqb _ _ (r .sized), le-leb _ _ (r .short))
+
+  pub true-ready : readyB index m xs ≡ true → Ready index m xs
+  unfolding readyB
+  true-ready e =
+      let p = both (soundB m) _ e in
+      let q = both (eqb (length index) entries) _ (p .1) in
+      record { sound = true-sound m (p .0); sized = eqb-true _ _ (q .0); short = leb-true _ _ (q .1) }
+
+  -- a caller that tested
+  pub ran-ready : Ready index m xs → ranOf index m xs ≡ ranAs (run (stepOf index) (alive m) xs)
+  unfolding ranOf
+  ran-ready r = rw (ready-true r)
+
+  pub ran-unfit : readyB index m xs ≡ false → Unfit ≡ ranOf index m xs
+  unfolding ranOf
+  ran-unfit e = rw e
+
+  -- each way through the code
+  pub ran-unsound : soundB m ≡ false → Unfit ≡ ranOf index m xs
+  unfolding readyB
+  ran-unsound e = ran-unfit (rw e)
+
+  pub ran-unsized : (length index ≡ entries → ⊥) → Unfit ≡ ranOf index m xs
+  unfolding readyB
+  ran-unsized e = ran-unfit (rw (ne-eqb _ _ e, and-false))
+
+  pub ran-long : limit < length xs → Unfit ≡ ranOf index m xs
+  unfolding readyB
+  ran-long h = ran-unfit (rw (lt-leb _ _ h, and-false, and-false))
+
+pub closed-ready : (m : Iso2022Jp) → Sound m → closedOf m ≡ ranAs (closeOf m)
+unfolding closedOf
+closed-ready m h = rw (sound-true m h)
+
+module _ (m : Iso2022Jp) where
+  pub closed-unsound : soundB m ≡ false → Unfit ≡ closedOf m
+  unfolding closedOf
+  closed-unsound e = rw e
+
+  pub closed-is : (r : Ran) → soundB m ≡ true → r ≡ ranAs (closeOf m) → r ≡ closedOf m
+  unfolding closedOf
+  closed-is r e q = rw (e, q)

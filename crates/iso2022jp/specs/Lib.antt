@@ -1,0 +1,6 @@
+pub mod Agreement
+pub mod AgreementLaws
+pub mod Edges
+pub mod Iso2022Jp
+pub mod Iso2022JpLaws
+pub mod Standard

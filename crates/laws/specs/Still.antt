@@ -1,0 +1,105 @@
+-- Machines whose step never changes the score: validators. What a run of one keeps, and where it can end. Assumes nothing.
+use mathlib.Core.Path.{_≡_, refl, sym, ap, _∙_}
+use mathlib.Core.Bool.{Bool, false}
+use mathlib.Core.List.{List, [], _∷_, _++_}
+use Prim.Native.Nat.{ℕ, _+_, _<_}
+use native.Mathlib.Omega.{arith}
+use lib.IntN.{ℤ, pos, _+ℤ_, +ℤ-idl, +ℤ-idr}
+use lib.ListN.{length, getD, drop}
+use Rattle.laws.specs.Lists.{any}
+use Rattle.laws.specs.Tests.{neither}
+use Rattle.laws.specs.Run.{Out, none, live, plus, feed, run, run-append, run-none, run-plus, turn-live}
+
+abbrev pub Lives : {D S : Type 0} → Out D S → Type 0
+Lives {S} o = (m : S) × ((s : ℤ) × (o ≡ live m s))
+
+-- dropped out, or live with the score s and a record of which P holds
+abbrev pub Ends : {D S : Type 0} → (S → Type 0) → ℤ → Out D S → Type 0
+Ends P s (none d) = Unit {0}
+Ends P s (live m t) = P m × (t ≡ s)
+
+plus-ends : {D S : Type 0} (P : S → Type 0) (s : ℤ) (o : Out D S) → Ends P (pos 0) o → Ends P s (plus s o)
+unfolding plus
+plus-ends P s (none d) q = tt
+plus-ends P s (live m t) q = (q .0, ap (λ (z : ℤ). s +ℤ z) (q .1) ∙ +ℤ-idr s)
+
+pub plus-zero : {D S : Type 0} (o : Out D S) → plus (pos 0) o ≡ o
+unfolding plus
+plus-zero (none d) = refl
+plus-zero (live m s) = ap (live m) (+ℤ-idl s)
+
+module _ {D S : Type 0} (step : S → ℕ → Out D S) where
+  -- ---- a step that keeps P and changes no score: so does a run
+  module _ (P : S → Type 0) (keeps : (m : S) (b : ℕ) → P m → Ends P (pos 0) (step m b)) where
+    feed-ends : (s : ℤ) (o : Out D S) (b : ℕ) → Ends P s o → Ends P s (feed step o b)
+    unfolding feed
+    feed-ends s (none d) b q = tt
+    feed-ends s (live m t) b q = rw (q .1) (plus-ends P s (step m b) (keeps m b (q .0)))
+
+    pub run-ends : (s : ℤ) (o : Out D S) (xs : List ℕ) → Ends P s o → Ends P s (run step o xs)
+    unfolding run
+    run-ends s o [] q = q
+    run-ends s o (x ∷ xs) q = run-ends s (feed step o x) xs (feed-ends s o x q)
+
+  -- ---- from any score as from 0
+  pub from-zero : (m : S) (s : ℤ) (xs : List ℕ) → run step (live m s) xs ≡ plus s (run step (live m (pos 0)) xs)
+  unfolding plus
+  from-zero m s xs = ap (λ (z : ℤ). run step (live m z) xs) (sym (+ℤ-idr s)) ∙ run-plus step s (live m (pos 0)) xs
+
+  pub lives : (m n : S) (s : ℤ) (xs : List ℕ) → run step (live m (pos 0)) xs ≡ live n (pos 0) → run step (live m s) xs ≡ live n s
+  unfolding plus
+  lives m n s xs e = from-zero m s xs ∙ (ap (plus s) e ∙ ap (live n) (+ℤ-idr s))
+
+  pub drops : (m : S) (d : D) (s : ℤ) (xs : List ℕ) → run step (live m (pos 0)) xs ≡ none d → run step (live m s) xs ≡ none d
+  unfolding plus
+  drops m d s xs e = from-zero m s xs ∙ ap (plus s) e
+
+  -- ---- the first byte of a run that is from the score 0
+  pub run-first : (m n : S) (b : ℕ) (bs : List ℕ) → step m b ≡ live n (pos 0) → run step (live m (pos 0)) (b ∷ bs) ≡ run step (live n (pos 0)) bs
+  unfolding run feed plus
+  run-first m n b bs e = rw e
+
+  pub run-drops : (m : S) (d : D) (b : ℕ) (bs : List ℕ) → step m b ≡ none d → run step (live m (pos 0)) (b ∷ bs) ≡ none d
+  unfolding run feed plus
+  run-drops m d b bs e = rw e (run-none step d bs)
+
+  -- ---- for a loop: one turn at i
+  pub turn-still : (m n : S) (g : ℤ) (xs : List ℕ) (i : ℕ) → i < length xs → step m (getD xs i 0) ≡ live n g → g ≡ pos 0 → run step (live n (pos 0)) (drop (i + 1) xs) ≡ run step (live m (pos 0)) (drop i xs)
+  turn-still m n g xs i h e q = turn-live step m (pos 0) xs i h n (pos 0) (e ∙ ap (live n) q)
+
+  -- ---- bytes that leave a record as it is
+  pub run-stays : (m : S) (stirs : ℕ → Bool) → ((b : ℕ) → stirs b ≡ false → step m b ≡ live m (pos 0)) → (s : ℤ) (xs : List ℕ) → any stirs xs ≡ false → run step (live m s) xs ≡ live m s
+  unfolding run feed plus any
+  run-stays m stirs stays s [] e = refl
+  run-stays m stirs stays s (x ∷ xs) e =
+      let q = neither (stirs x) (any stirs xs) e in
+      rw (stays x (q .0), +ℤ-idr) (run-stays m stirs stays s xs (q .1))
+
+  -- ---- what begins a stretch that lives, lives
+  begun : (o : Out D S) (ys : List ℕ) → Lives (run step o ys) → Lives o
+  begun (none d) ys l = let e : none d ≡ live (l .0) (l .1 .0) = sym (run-none step d ys) ∙ l .1 .1 in (l .0, (l .1 .0, e))
+  begun (live m s) ys l = (m, (s, refl))
+
+  pub lives-begun : (o : Out D S) (xs ys : List ℕ) → Lives (run step o (xs ++ ys)) → Lives (run step o xs)
+  lives-begun o xs ys l = begun (run step o xs) ys (rw (run-append step o xs ys) at l)
+
+-- ---- the end of the stream, from what the bytes before it gave
+unfoldable pub ended : {D S : Type 0} → (S → Out D S) → Out D S → Out D S
+ended close (none d) = none d
+ended close (live m s) = plus s (close m)
+
+module _ {D S : Type 0} where
+  pub none-live : {d : D} {m : S} {s : ℤ} → none d ≡ live m s → ⊥
+  none-live e = let z : _≡_ {A = ℕ} 0 1 = cc in omega arith
+
+  -- what lives with a score that is larger by k, lives
+  pub plus-live : (k : ℤ) (o : Out D S) (m : S) (s : ℤ) → plus k o ≡ live m s → (t : ℤ) × (o ≡ live m t)
+  unfolding plus
+  plus-live k (none d) m s e = (s, e)
+  plus-live k (live n t) m s e = let q : n ≡ m = cc in (t, ap (λ (x : S). live x t) q)
+
+  -- what lives at the end, lived before it
+  pub ended-live : (close : S → Out D S) (o : Out D S) → Lives (ended close o) → (m : S) × ((s : ℤ) × ((o ≡ live m s) × Lives (close m)))
+  unfolding ended
+  ended-live close (none d) l = absurd (none-live (l .1 .1))
+  ended-live close (live m s) l = (m, (s, (refl, (l .0, plus-live s (close m) (l .0) (l .1 .0) (l .1 .1)))))

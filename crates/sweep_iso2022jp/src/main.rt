@@ -1,0 +1,195 @@
+// Runs the ISO-2022-JP machine, over the Standard's published JIS X 0208 index, through every escape of three bytes, every byte
+// after each escape that is one, and every pair after ESC $ B. Each is compared with a second check, written another way.
+// Prints how many there were, how many were whole, cut and none, and on how many the two differ.
+ghost use mathlib.Core.Path.{_≡_};
+ghost use lib.ListN.{length};
+use iso2022jp::Iso2022Jp;
+use iso2022jp::Ran;
+use tally::Counts;
+
+fn machine(part: &[u8], index: &[u32]) -> u8 {
+    match Iso2022Jp::fresh().run(part, index) {
+        Ran::Live(m) => match m.close() {
+            Ran::Live(_) => tally::WHOLE,
+            Ran::Dropped => tally::CUT,
+            Ran::Unfit => tally::UNFIT,
+        },
+        Ran::Dropped => tally::NONE,
+        Ran::Unfit => tally::UNFIT,
+    }
+}
+
+fn wide(b: u8) -> u32
+    ensures { λ r. ⌜ r ≡ b ⌝ }
+{
+    b as u32
+}
+
+fn place(b: u8) -> usize
+    ensures { λ r. ⌜ r ≡ b ⌝ }
+{
+    b as usize
+}
+
+// The five escapes.
+fn second_escape(x: u8, y: u8) -> u8 {
+    match wide(x) * 256 + wide(y) {
+        0x2440 | 0x2442 | 0x2842 | 0x2849 | 0x284A => tally::WHOLE,
+        _ => tally::NONE,
+    }
+}
+
+// A byte after the escape ESC ( or ESC $ with this last byte.
+fn second_after(last: u8, b: u8) -> u8 {
+    if b == 0x1B {
+        return tally::CUT;
+    }
+    match last {
+        0x49 => {
+            if 0x20 < b && b < 0x60 {
+                tally::WHOLE
+            } else {
+                tally::NONE
+            }
+        }
+        0x40 => {
+            if 0x20 < b && b < 0x7F {
+                tally::CUT
+            } else {
+                tally::NONE
+            }
+        }
+        _ => {
+            if 0x7F < b || b == 14 || b == 15 {
+                tally::NONE
+            } else {
+                tally::WHOLE
+            }
+        }
+    }
+}
+
+// Where a pair stands, by its row and its cell, counted from 1; 0 where it is no pair.
+fn pair_place(a: u8, b: u8) -> usize {
+    if a < 33 {
+        return 0;
+    }
+    if b < 33 {
+        return 0;
+    }
+    if 126 < a {
+        return 0;
+    }
+    if 126 < b {
+        return 0;
+    }
+    place(a - 33) * 94 + place(b - 32)
+}
+
+fn second_pair(a: u8, b: u8, index: &[u32]) -> u8 {
+    if a == 0x1B {
+        return if b == 0x24 || b == 0x28 {
+            tally::CUT
+        } else {
+            tally::NONE
+        };
+    }
+    let at = pair_place(a, b);
+    if at == 0 {
+        return tally::NONE;
+    }
+    if index.len() < at {
+        return tally::NONE;
+    }
+    if index[at - 1] == 0 {
+        tally::NONE
+    } else {
+        tally::WHOLE
+    }
+}
+
+fn low(n: u32) -> u8 {
+    (n % 256) as u8
+}
+
+// What is tried with a number's two low bytes.
+enum Sweep {
+    Escapes,
+    // the low byte, after this escape
+    After(u8, u8),
+    Pairs,
+}
+
+fn tried(counts: Counts, sweep: Sweep, n: u32, index: &[u32]) -> Counts {
+    let a = low(n / 256);
+    let b = low(n);
+    match sweep {
+        Sweep::Escapes => counts.counted(machine(&[0x1B, a, b], index), second_escape(a, b)),
+        Sweep::After(second, last) => counts.counted(
+            machine(&[0x1B, second, last, b], index),
+            second_after(last, b),
+        ),
+        Sweep::Pairs => counts.counted(
+            machine(&[0x1B, 0x24, 0x42, a, b], index),
+            second_pair(a, b, index),
+        ),
+    }
+}
+
+fn swept(sweep: Sweep, to: u32, index: &[u32]) -> Counts {
+    let mut counts = Counts::nothing();
+    let mut n = 0;
+    while n < to {
+        counts = tried(counts, sweep, n, index);
+        n += 1;
+    }
+    counts
+}
+
+// A little-endian number of four bytes.
+fn word(a: u8, b: u8, c: u8, d: u8) -> u32 {
+    wide(a) + 256 * wide(b) + 65536 * wide(c) + 16_777_216 * wide(d)
+}
+
+fn fill(index: &mut [u32], bytes: &[u8]) -> u64
+    requires { ⌜ (length (now index) ≡ 8836) × (length (now bytes) ≡ 35344) ⌝ }
+{
+    let mut mapped = 0;
+    let mut i = 0;
+    while i < 8836 {
+        let at = 4 * i;
+        let entry = word(bytes[at], bytes[at + 1], bytes[at + 2], bytes[at + 3]);
+        index[i] = entry;
+        if entry != 0 {
+            mapped = std::num::wrapping_add_u64(mapped, 1);
+        }
+        i += 1;
+    }
+    mapped
+}
+
+fn print_sweeps(index: &[u32]) {
+    swept(Sweep::Escapes, 65536, index).print(b"escapes:");
+    swept(Sweep::After(0x28, 0x42), 256, index).print(b"bytes after ESC ( B:");
+    swept(Sweep::After(0x28, 0x4A), 256, index).print(b"bytes after ESC ( J:");
+    swept(Sweep::After(0x28, 0x49), 256, index).print(b"bytes after ESC ( I:");
+    swept(Sweep::After(0x24, 0x40), 256, index).print(b"bytes after ESC $ @:");
+    swept(Sweep::Pairs, 65536, index).print(b"pairs after ESC $ B:");
+}
+
+fn main() {
+    let path = b"index-jis0208.u32le";
+    let file = os::open_read(path);
+    if file < 0 {
+        os::fail(path);
+        return;
+    }
+    let mut bytes = [0u8; 35344];
+    let got = io::read_full(file, &mut bytes);
+    libc::close(file);
+    tally::print_count(b"bytes of the index ", got as u64);
+    let mut index = [0u32; 8836];
+    tally::print_count(b", mapped ", fill(&mut index, &bytes));
+    tally::print_word(b"\n");
+    print_sweeps(&index);
+}

@@ -1,0 +1,67 @@
+-- `second` is safe and ends: the measure is what is left of the bytes. Assumes nothing.
+use Prim.Native.Nat.{_-_, _≤_}
+use lib.ListN.{length}
+use borrow.Author.Needs.{needs}
+use Rattle.sweep_utf8.proofs.second.Statement.{statement}
+use Rattle.sweep_utf8.proofs.second.Tie as tie
+
+abbrev Inv-loop : tie.InvT-loop
+Inv-loop bytes part₀ i₀ part i = i ≤ length bytes
+
+abbrev μ-loop : tie.MeasureT-loop
+μ-loop bytes part₀ i₀ part i = length bytes - i
+
+first-requires : tie.Need-first-requires Inv-loop μ-loop
+first-requires c κs = search needs
+
+loop-holds : tie.Need-loop-holds Inv-loop μ-loop
+loop-holds c = search needs
+
+shared-slice-read-taken : tie.Need-shared-slice-read-taken Inv-loop μ-loop
+shared-slice-read-taken c = search needs
+
+taken-requires : tie.Need-taken-requires Inv-loop μ-loop
+taken-requires c κs = search needs
+
+returns : tie.Need-returns Inv-loop μ-loop
+returns c = search needs
+
+is-possible-requires : tie.Need-is-possible-requires Inv-loop μ-loop
+is-possible-requires c κs = search needs
+
+returns-2 : tie.Need-returns-2 Inv-loop μ-loop
+returns-2 c = search needs
+
+add-i : tie.Need-add-i Inv-loop μ-loop
+add-i c = search needs
+
+loop-less : tie.Need-loop-less Inv-loop μ-loop
+loop-less c = search needs
+
+loop-again : tie.Need-loop-again Inv-loop μ-loop
+loop-again c = search needs
+
+returns-3 : tie.Need-returns-3 Inv-loop μ-loop
+returns-3 c = search needs
+
+returns-4 : tie.Need-returns-4 Inv-loop μ-loop
+returns-4 c = search needs
+
+pub second-spec : {M : Type 1} → statement M
+second-spec =
+    tie.close
+    (tie.spec
+    Inv-loop
+    μ-loop
+    first-requires
+    loop-holds
+    shared-slice-read-taken
+    taken-requires
+    returns
+    is-possible-requires
+    returns-2
+    add-i
+    loop-less
+    loop-again
+    returns-3
+    returns-4)

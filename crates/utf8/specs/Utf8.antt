@@ -1,0 +1,97 @@
+-- The UTF-8 machine: how many bytes are still needed and the range of the next one. A byte changes no score. Assumes nothing.
+use mathlib.Core.Bool.{Bool, false, cond, _&&_, _||_}
+use mathlib.Core.List.{List}
+use Prim.Native.Nat.{ℕ, _-_, _≤_}
+use lib.Dec.{eqb, leb}
+use lib.IntN.{pos}
+use lib.ListN.{length}
+use Rattle.laws.specs.Limit.{limit}
+use Rattle.laws.specs.Run.{Out, none, live, run}
+use Rattle.octets.specs.Octets.{between}
+use Rattle.utf8.specs.declared.Utf8.{Utf8}
+use Rattle.utf8.specs.declared.Stepped.{Stepped}
+use Rattle.utf8.specs.declared.Stepped.the-variants.{Alive, Invalid}
+use Rattle.utf8.specs.declared.Ran.{Ran}
+use Rattle.utf8.specs.declared.Ran.the-variants.{Live, Dropped, Unfit}
+
+-- nothing is carried by a machine that dropped out
+abbrev pub Outcome : Type 0
+Outcome = Out (Unit {0}) Utf8
+
+-- ---- records
+-- n bytes are needed, the next of them from lo to hi
+abbrev pub needs : ℕ → ℕ → ℕ → Utf8
+needs n lo hi = record { need = n; lo = lo; hi = hi }
+
+abbrev pub fresh : Utf8
+fresh = needs 0 0x80 0xBF
+
+-- the records that the kind can hold
+pub data Sound : Utf8 → Type 0 where
+  plain : {n : ℕ} → n ≤ 3 → Sound (needs n 0x80 0xBF)
+  after-E0 : Sound (needs 2 0xA0 0xBF)
+  after-ED : Sound (needs 2 0x80 0x9F)
+  after-F0 : Sound (needs 3 0x90 0xBF)
+  after-F4 : Sound (needs 3 0x80 0x8F)
+
+unfoldable pub nextIn : Utf8 → ℕ → ℕ → Bool
+nextIn m lo hi = eqb (m .lo) lo && eqb (m .hi) hi
+
+unfoldable pub nextCut : Utf8 → ℕ → ℕ → Bool
+nextCut m lo hi = nextIn m lo 0xBF || nextIn m 0x80 hi
+
+unfoldable pub soundB : Utf8 → Bool
+soundB m =
+    cond (nextIn m 0x80 0xBF) (leb (m .need) 3)
+    (cond (eqb (m .need) 2) (nextCut m 0xA0 0x9F)
+    (cond (eqb (m .need) 3) (nextCut m 0x90 0x8F) false))
+
+-- ---- one byte
+abbrev pub alive : Utf8 → Outcome
+alive m = live m (pos 0)
+
+abbrev pub dropped : Outcome
+dropped = none tt
+
+-- a byte where a sequence begins
+unfoldable pub leadOf : ℕ → Outcome
+leadOf b =
+    cond (between 0x00 0x7F b) (alive fresh)
+    (cond (between 0xC2 0xDF b) (alive (needs 1 0x80 0xBF))
+    (cond (between 0xE0 0xEF b) (alive (needs 2 (cond (eqb b 0xE0) 0xA0 0x80) (cond (eqb b 0xED) 0x9F 0xBF)))
+    (cond (between 0xF0 0xF4 b) (alive (needs 3 (cond (eqb b 0xF0) 0x90 0x80) (cond (eqb b 0xF4) 0x8F 0xBF)))
+    dropped)))
+
+-- a byte within one
+unfoldable pub trailOf : Utf8 → ℕ → Outcome
+trailOf m b = cond (between (m .lo) (m .hi) b) (alive (needs (m .need - 1) 0x80 0xBF)) dropped
+
+unfoldable pub stepOf : Utf8 → ℕ → Outcome
+stepOf m b = cond (eqb (m .need) 0) (leadOf b) (trailOf m b)
+
+-- ---- the end of the stream
+unfoldable pub closeOf : Utf8 → Outcome
+closeOf m = cond (eqb (m .need) 0) (alive m) dropped
+
+-- ---- the code's answers
+abbrev pub outOf : Stepped → Outcome
+outOf (Alive m g) = live m g
+outOf Invalid = dropped
+
+unfoldable pub ranAs : Outcome → Ran
+ranAs (none d) = Dropped
+ranAs (live m s) = Live m
+
+-- a record that the kind can hold, and a stretch that is not too long
+pub record Ready (m : Utf8) (xs : List ℕ) : Type 0 where
+  pub sound : Sound m
+  pub short : length xs ≤ limit
+
+unfoldable pub readyB : Utf8 → List ℕ → Bool
+readyB m xs = soundB m && leb (length xs) limit
+
+unfoldable pub ranOf : Utf8 → List ℕ → Ran
+ranOf m xs = cond (readyB m xs) (ranAs (run stepOf (alive m) xs)) Unfit
+
+unfoldable pub closedOf : Utf8 → Ran
+closedOf m = cond (soundB m) (ranAs (closeOf m)) Unfit

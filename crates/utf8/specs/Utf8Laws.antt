@@ -1,0 +1,219 @@
+-- What holds of the UTF-8 machine's definitions, and each way through the code. Assumes nothing.
+use mathlib.Core.Path.{_≡_, refl, sym, subst, _∙_}
+use mathlib.Core.Bool.{Bool, true, false, cond, _||_, and-false}
+use mathlib.Core.List.{List, _++_}
+use Prim.Native.Nat.{ℕ, _-_, _<_, _≤_}
+use native.Mathlib.Omega.{arith}
+use lib.Dec.{eqb, leb}
+use lib.IntN.{ℤ, pos}
+use lib.ListN.{length}
+use borrow.Author.Tests.{eq-eqb, ne-eqb, eqb-true, le-leb, lt-leb, leb-true, leb-false}
+use Rattle.laws.specs.Lists.{any}
+use Rattle.laws.specs.Limit.{limit}
+use Rattle.laws.specs.Run.{live, run, run-append}
+use Rattle.laws.specs.Tests.{both, either}
+use Rattle.laws.specs.Still.{Lives, Ends, none-live, run-ends, run-stays}
+use Rattle.octets.specs.Octets.{between, nonAscii}
+use Rattle.octets.specs.BetweenLaws.{inside, below, above}
+use Rattle.utf8.specs.declared.Utf8.{Utf8}
+use Rattle.utf8.specs.declared.Ran.the-variants.{Live, Dropped, Unfit}
+use Rattle.utf8.specs.Utf8.{Outcome, needs, fresh, Sound, plain, after-E0, after-ED, after-F0, after-F4, nextIn, nextCut, soundB, alive, dropped, leadOf, trailOf, stepOf, closeOf, ranAs, Ready, readyB, ranOf, closedOf}
+
+-- ---- each way through a byte that begins a sequence
+module _ (b : ℕ) where
+  pub lead-ascii : b < 0x80 → alive fresh ≡ leadOf b
+  unfolding leadOf
+  lead-ascii h = rw (inside 0x00 0x7F b (omega arith) (omega arith))
+
+  -- no byte that begins a sequence: past the ASCII, and outside C2..DF, E0..EF, F0..F4
+  no-lead : between 0xC2 0xDF b ≡ false → between 0xE0 0xEF b ≡ false → between 0xF0 0xF4 b ≡ false → 0x7F < b → dropped ≡ leadOf b
+  unfolding leadOf
+  no-lead p q r h = rw (above 0x00 0x7F b h, p, q, r)
+
+  pub lead-early : 0x80 ≤ b → b < 0xC2 → dropped ≡ leadOf b
+  lead-early p q = no-lead (below 0xC2 0xDF b q) (below 0xE0 0xEF b (omega arith)) (below 0xF0 0xF4 b (omega arith)) (omega arith)
+
+  pub lead-late : 0xF5 ≤ b → dropped ≡ leadOf b
+  lead-late p = no-lead (above 0xC2 0xDF b (omega arith)) (above 0xE0 0xEF b (omega arith)) (above 0xF0 0xF4 b (omega arith)) (omega arith)
+
+  pub lead-two : 0xC2 ≤ b → b < 0xE0 → alive (needs 1 0x80 0xBF) ≡ leadOf b
+  unfolding leadOf
+  lead-two p q = rw (above 0x00 0x7F b (omega arith), inside 0xC2 0xDF b p (omega arith))
+
+  module _ (lo hi : ℕ) where
+    pub lead-three : 0xE0 ≤ b → b < 0xF0 → lo ≡ cond (eqb b 0xE0) 0xA0 0x80 → hi ≡ cond (eqb b 0xED) 0x9F 0xBF → alive (needs 2 lo hi) ≡ leadOf b
+    unfolding leadOf
+    lead-three p q e f = rw (above 0x00 0x7F b (omega arith), above 0xC2 0xDF b (omega arith), inside 0xE0 0xEF b p (omega arith), e, f)
+
+    pub lead-four : 0xF0 ≤ b → b < 0xF5 → lo ≡ cond (eqb b 0xF0) 0x90 0x80 → hi ≡ cond (eqb b 0xF4) 0x8F 0xBF → alive (needs 3 lo hi) ≡ leadOf b
+    unfolding leadOf
+    lead-four p q e f = rw (above 0x00 0x7F b (omega arith), above 0xC2 0xDF b (omega arith), above 0xE0 0xEF b (omega arith), inside 0xF0 0xF4 b p (omega arith), e, f)
+
+-- ---- each way through a step
+module _ (m : Utf8) (b : ℕ) where
+  pub step-lead : m .need ≡ 0 → leadOf b ≡ stepOf m b
+  unfolding stepOf
+  step-lead e = rw (eq-eqb _ _ e)
+
+  step-trail : (m .need ≡ 0 → ⊥) → stepOf m b ≡ trailOf m b
+  unfolding stepOf
+  step-trail e = rw (ne-eqb _ _ e)
+
+  module _ (e : m .need ≡ 0 → ⊥) where
+    pub step-outside : between (m .lo) (m .hi) b ≡ false → dropped ≡ stepOf m b
+    unfolding trailOf
+    step-outside h = sym (step-trail e ∙ rw h)
+
+    pub step-below : b < m .lo → dropped ≡ stepOf m b
+    step-below h = step-outside (below (m .lo) (m .hi) b h)
+
+    pub step-above : m .hi < b → dropped ≡ stepOf m b
+    step-above h = step-outside (above (m .lo) (m .hi) b h)
+
+    pub step-within : m .lo ≤ b → b ≤ m .hi → alive (needs (m .need - 1) 0x80 0xBF) ≡ stepOf m b
+    unfolding trailOf
+    step-within p q = sym (step-trail e ∙ rw (inside (m .lo) (m .hi) b p q))
+
+-- ---- what the kind can hold: the test decides it, both ways
+next-is : (m : Utf8) (lo hi : ℕ) → nextIn m lo hi ≡ true → needs (m .need) lo hi ≡ m
+unfolding nextIn
+next-is m lo hi e =
+    let q = both (eqb (m .lo) lo) (eqb (m .hi) hi) e in
+    rw (← eqb-true (m .lo) lo (q .0), ← eqb-true (m .hi) hi (q .1))
+
+module _ (m : Utf8) where
+  cut-sound : (n lo hi : ℕ) → m .need ≡ n → Sound (needs n lo 0xBF) → Sound (needs n 0x80 hi) → nextCut m lo hi ≡ true → Sound m
+  unfolding nextCut
+  cut-sound n lo hi e p q h = cut-at (nextIn m lo 0xBF) refl h
+    where
+      cut-at : (t : Bool) → nextIn m lo 0xBF ≡ t → (t || nextIn m 0x80 hi) ≡ true → Sound m
+      cut-at true f g = subst Sound (next-is m lo 0xBF f) (rw e p)
+      cut-at false f g = subst Sound (next-is m 0x80 hi g) (rw e q)
+
+  sound-at : (t u v : Bool) → nextIn m 0x80 0xBF ≡ t → eqb (m .need) 2 ≡ u → eqb (m .need) 3 ≡ v → cond t (leb (m .need) 3) (cond u (nextCut m 0xA0 0x9F) (cond v (nextCut m 0x90 0x8F) false)) ≡ true → Sound m
+  sound-at true u v p q r h = subst Sound (next-is m 0x80 0xBF p) (plain (leb-true _ _ h))
+  sound-at false true v p q r h = cut-sound 2 0xA0 0x9F (eqb-true _ _ q) after-E0 after-ED h
+  sound-at false false true p q r h = cut-sound 3 0x90 0x8F (eqb-true _ _ r) after-F0 after-F4 h
+  sound-at false false false p q r h = let z : _≡_ {A = ℕ} 0 1 = cc in absurd (omega arith)
+
+  pub true-sound : soundB m ≡ true → Sound m
+  unfolding soundB
+  true-sound h = sound-at (nextIn m 0x80 0xBF) (eqb (m .need) 2) (eqb (m .need) 3) refl refl refl h
+
+pub sound-true : (m : Utf8) → Sound m → soundB m ≡ true
+unfolding soundB nextIn nextCut
+sound-true m (plain {n} h) = le-leb n 3 h
+sound-true m after-E0 = refl
+sound-true m after-ED = refl
+sound-true m after-F0 = refl
+sound-true m after-F4 = refl
+
+-- ---- a step keeps it, and changes no score
+-- after a lead that cuts the next byte's range at one end, or at none
+pub cut-range : (n lo hi k l b : ℕ) → k < l → n ≤ 3 → Sound (needs n lo 0xBF) → Sound (needs n 0x80 hi) → Sound (needs n (cond (eqb b k) lo 0x80) (cond (eqb b l) hi 0xBF))
+cut-range n lo hi k l b apart h p q = at (eqb b k) (eqb b l) refl refl
+  where
+    at : (t u : Bool) → eqb b k ≡ t → eqb b l ≡ u → Sound (needs n (cond t lo 0x80) (cond u hi 0xBF))
+    at true true e f = absurd (omega (arith, eqb-true b k e, eqb-true b l f))
+    at true false e f = p
+    at false true e f = q
+    at false false e f = plain h
+
+pub fresh-sound : Sound fresh
+fresh-sound = plain {n = 0} (omega arith)
+
+abbrev Kept : Outcome → Type 0
+Kept o = Ends Sound (pos 0) o
+
+lead-sound : (b : ℕ) → Kept (leadOf b)
+unfolding leadOf
+lead-sound b =
+    either Kept (between 0x00 0x7F b) (λ e. (fresh-sound, refl))
+    (λ e. either Kept (between 0xC2 0xDF b) (λ e. (plain {n = 1} (omega arith), refl))
+    (λ e. either Kept (between 0xE0 0xEF b) (λ e. (cut-range 2 0xA0 0x9F 0xE0 0xED b (omega arith) (omega arith) after-E0 after-ED, refl))
+    (λ e. either Kept (between 0xF0 0xF4 b) (λ e. (cut-range 3 0x90 0x8F 0xF0 0xF4 b (omega arith) (omega arith) after-F0 after-F4, refl)) (λ e. tt))))
+
+trail-sound : (n lo hi b : ℕ) → n ≤ 4 → Kept (trailOf (needs n lo hi) b)
+unfolding trailOf
+trail-sound n lo hi b h = either Kept (between lo hi b) (λ e. (plain {n = n - 1} (omega arith), refl)) (λ e. tt)
+
+pub most-needed : (m : Utf8) → Sound m → m .need ≤ 3
+most-needed m (plain h) = h
+most-needed m after-E0 = omega arith
+most-needed m after-ED = omega arith
+most-needed m after-F0 = omega arith
+most-needed m after-F4 = omega arith
+
+pub step-keeps : (m : Utf8) (b : ℕ) → Sound m → Ends Sound (pos 0) (stepOf m b)
+unfolding stepOf
+step-keeps m b s = either Kept (eqb (m .need) 0) (λ e. lead-sound b) (λ e. trail-sound (m .need) (m .lo) (m .hi) b (omega (arith, most-needed m s)))
+
+pub step-live : (m n : Utf8) (b : ℕ) (s : ℤ) → Sound m → stepOf m b ≡ live n s → Sound n × (s ≡ pos 0)
+step-live m n b s h e = rw e at (step-keeps m b h)
+
+-- A stretch keeps what the kind can hold, and ends with the score that it began with, or none.
+pub run-keeps : (m : Utf8) (s : ℤ) (xs : List ℕ) → Sound m → Ends Sound s (run stepOf (live m s) xs)
+run-keeps m s xs h = run-ends stepOf Sound step-keeps s (live m s) xs (h, refl)
+
+-- ---- joining, by the law of every machine
+pub run-joins : (o : Outcome) (xs ys : List ℕ) → run stepOf o (xs ++ ys) ≡ run stepOf (run stepOf o xs) ys
+run-joins o xs ys = run-append stepOf o xs ys
+
+-- ---- ASCII leaves the record fresh
+pub ascii-stays : (s : ℤ) (xs : List ℕ) → any nonAscii xs ≡ false → run stepOf (live fresh s) xs ≡ live fresh s
+unfolding stepOf
+ascii-stays s xs e = run-stays stepOf fresh nonAscii (λ (b : ℕ) (q : nonAscii b ≡ false). sym (lead-ascii b (leb-false 0x80 b q))) s xs e
+
+-- ---- the close: live exactly if nothing is needed
+close-at : (m : Utf8) (t : Bool) → eqb (m .need) 0 ≡ t → Lives (cond t (alive m) dropped) → m .need ≡ 0
+close-at m true e l = eqb-true _ _ e
+close-at m false e l = absurd (none-live (l .1 .1))
+
+pub close-whole : (m : Utf8) → Lives (closeOf m) → m .need ≡ 0
+unfolding closeOf
+close-whole m l = close-at m (eqb (m .need) 0) refl l
+
+-- ---- what a call gives
+module _ (m : Utf8) (xs : List ℕ) where
+  pub ready-true : Ready m xs → readyB m xs ≡ true
+  unfolding readyB
+  ready-true r = rw (sound-true m (r .sound), le-leb _ _ (r .short))
+
+  pub true-ready : readyB m xs ≡ true → Ready m xs
+  unfolding readyB
+  true-ready e = let q = both (soundB m) (leb (length xs) limit) e in record { sound = true-sound m (q .0); short = leb-true _ _ (q .1) }
+
+  -- a caller that tested
+  pub ran-ready : Ready m xs → ranOf m xs ≡ ranAs (run stepOf (alive m) xs)
+  unfolding ranOf
+  ran-ready r = rw (ready-true r)
+
+  pub ran-unfit : readyB m xs ≡ false → Unfit ≡ ranOf m xs
+  unfolding ranOf
+  ran-unfit e = rw e
+
+  -- each way through the code
+  pub ran-unsound : soundB m ≡ false → Unfit ≡ ranOf m xs
+  unfolding readyB
+  ran-unsound e = ran-unfit (rw e)
+
+  pub ran-long : limit < length xs → Unfit ≡ ranOf m xs
+  unfolding readyB
+  ran-long h = ran-unfit (rw (lt-leb _ _ h, and-false))
+
+module _ (m : Utf8) where
+  pub closed-ready : Sound m → closedOf m ≡ ranAs (closeOf m)
+  unfolding closedOf
+  closed-ready h = rw (sound-true m h)
+
+  pub closed-whole : soundB m ≡ true → m .need ≡ 0 → Live m ≡ closedOf m
+  unfolding closedOf closeOf ranAs
+  closed-whole e h = rw (e, eq-eqb _ _ h)
+
+  pub closed-cut : soundB m ≡ true → (m .need ≡ 0 → ⊥) → Dropped ≡ closedOf m
+  unfolding closedOf closeOf ranAs
+  closed-cut e h = rw (e, ne-eqb _ _ h)
+
+  pub closed-unsound : soundB m ≡ false → Unfit ≡ closedOf m
+  unfolding closedOf
+  closed-unsound e = rw e
