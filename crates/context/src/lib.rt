@@ -13,6 +13,9 @@ pub struct Context {
     pub len: usize,
 }
 
+// A context's two places, whether they hold a byte or not.
+pub type Places = [u8; 2];
+
 impl Context {
     pub const MOST: usize = 2;
 
@@ -69,7 +72,7 @@ impl Context {
     }
 
     // Its two places. The bytes that it holds are the first `count` of them.
-    pub fn bytes(self) -> [u8; 2]
+    pub fn bytes(self) -> Places
         ensures { λ r. ⌜ r ≡ self .first ∷ self .second ∷ [] ⌝ }
     {
         [self.first, self.second]

@@ -20,13 +20,14 @@ use Rattle.single.specs.declared.logical.Ran.the-variants.{Live, Dropped
 abbrev pub freshOf : Logical
 freshOf = record { prev = 0; «prev_ascii» = true; «plausible_punctuation» = 0; «current_word_len» = 0; «longest_word» = 0 }
 
--- ASCII punctuation of caseless class 0 after an alphabetic class, unless both bytes are ASCII
-abbrev pub plausibleOf : List ℕ → Bool → ℕ → ℕ → ℕ → Bool
-plausibleOf marks both previous current b = not both && (punctuationOf current b && alphabeticOf marks previous)
+-- ASCII punctuation of caseless class 0 after an alphabetic class
+abbrev pub plausibleOf : List ℕ → ℕ → ℕ → ℕ → Bool
+plausibleOf marks previous current b = punctuationOf current b && alphabeticOf marks previous
 
 module _ (t : Lent) where
+  -- unless both bytes are ASCII
   abbrev pub plausible : Logical → ℕ → Bool
-  plausible m b = plausibleOf (t .marks) (asciiPair (m .«prev_ascii») b) (m .prev) (caselessOf t b) b
+  plausible m b = not (asciiPair (m .«prev_ascii») b) && plausibleOf (t .marks) (m .prev) (caselessOf t b) b
 
   abbrev pub nextOf : Logical → ℕ → Logical
   nextOf m b =

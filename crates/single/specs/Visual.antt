@@ -20,13 +20,14 @@ use Rattle.single.specs.declared.visual.Ran.the-variants.{Live, Dropped,
 abbrev pub freshOf : Visual
 freshOf = record { prev = 0; «prev_ascii» = true; «prev_punctuation» = false; «plausible_punctuation» = 0; «current_word_len» = 0; «longest_word» = 0 }
 
--- an alphabetic class after ASCII punctuation of caseless class 0, unless both bytes are ASCII
-abbrev pub plausibleOf : Bool → Bool → Bool → Bool
-plausibleOf both prevPunctuation alphabetic = not both && (alphabetic && prevPunctuation)
+-- an alphabetic class after ASCII punctuation of caseless class 0
+abbrev pub plausibleOf : Bool → Bool → Bool
+plausibleOf prevPunctuation alphabetic = alphabetic && prevPunctuation
 
 module _ (t : Lent) where
+  -- unless both bytes are ASCII
   abbrev pub plausible : Visual → ℕ → Bool
-  plausible m b = plausibleOf (asciiPair (m .«prev_ascii») b) (m .«prev_punctuation») (alphabetic t b)
+  plausible m b = not (asciiPair (m .«prev_ascii») b) && plausibleOf (m .«prev_punctuation») (alphabetic t b)
 
   abbrev pub nextOf : Visual → ℕ → Visual
   nextOf m b =

@@ -43,13 +43,10 @@ impl Logical {
     }
 
     // ASCII punctuation of caseless class 0 after an alphabetic class.
-    fn is_plausible(ascii_pair: bool, prev: u8, current: u8, b: u8, marks: &[u8]) -> bool
+    fn is_plausible(prev: u8, current: u8, b: u8, marks: &[u8]) -> bool
         requires { ⌜ prev < length (now marks) ⌝ }
-        ensures { λ r. ⌜ r ≡ plausibleOf (now (marks .entry)) «ascii_pair» prev current b ⌝ }
+        ensures { λ r. ⌜ r ≡ plausibleOf (now (marks .entry)) prev current b ⌝ }
     {
-        if ascii_pair {
-            return false;
-        }
         if shared::is_punctuation(current, b) {
             return shared::is_non_latin_alphabetic(marks, prev);
         }
@@ -69,17 +66,20 @@ impl Logical {
         let caseless_class = class % Self::CLASSES;
         let alphabetic = shared::is_non_latin_alphabetic(marks, caseless_class);
         let words = shared::words_after(self.current_word_len, self.longest_word, alphabetic);
-        let ascii_pair = shared::is_ascii_pair(self.prev_ascii, b);
-        let score = shared::gain(
-            ascii_pair,
-            self.prev,
-            caseless_class,
-            alphabetic,
-            marks,
-            pairs,
-            weights,
-        );
-        let plausible = Self::is_plausible(ascii_pair, self.prev, caseless_class, b, marks);
+        if shared::is_ascii_pair(self.prev_ascii, b) {
+            return Ran::Live(
+                Logical {
+                    prev: caseless_class,
+                    prev_ascii: true,
+                    plausible_punctuation: self.plausible_punctuation,
+                    current_word_len: words.current,
+                    longest_word: words.longest,
+                },
+                0,
+            );
+        }
+        let score = shared::pair_gain(self.prev, caseless_class, alphabetic, marks, pairs, weights);
+        let plausible = Self::is_plausible(self.prev, caseless_class, b, marks);
         Ran::Live(
             Logical {
                 prev: caseless_class,

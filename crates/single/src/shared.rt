@@ -151,7 +151,7 @@ fn is_adjacent(prev: u8, current: u8, alphabetic: bool, marks: &[u8]) -> bool
 }
 
 // The pair score of `current` after `prev`, with the adjacency weight where it applies.
-fn pair_gain(
+pub(crate) fn pair_gain(
     prev: u8,
     current: u8,
     alphabetic: bool,

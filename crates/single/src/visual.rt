@@ -45,12 +45,9 @@ impl Visual {
     }
 
     // An alphabetic class after ASCII punctuation of caseless class 0.
-    fn is_plausible(ascii_pair: bool, prev_punctuation: bool, alphabetic: bool) -> bool
-        ensures { λ r. ⌜ r ≡ plausibleOf «ascii_pair» «prev_punctuation» alphabetic ⌝ }
+    fn is_plausible(prev_punctuation: bool, alphabetic: bool) -> bool
+        ensures { λ r. ⌜ r ≡ plausibleOf «prev_punctuation» alphabetic ⌝ }
     {
-        if ascii_pair {
-            return false;
-        }
         if alphabetic {
             return prev_punctuation;
         }
@@ -70,22 +67,27 @@ impl Visual {
         let caseless_class = class % Self::CLASSES;
         let alphabetic = shared::is_non_latin_alphabetic(marks, caseless_class);
         let words = shared::words_after(self.current_word_len, self.longest_word, alphabetic);
-        let ascii_pair = shared::is_ascii_pair(self.prev_ascii, b);
-        let score = shared::gain(
-            ascii_pair,
-            self.prev,
-            caseless_class,
-            alphabetic,
-            marks,
-            pairs,
-            weights,
-        );
-        let plausible = Self::is_plausible(ascii_pair, self.prev_punctuation, alphabetic);
+        let punctuation = shared::is_punctuation(caseless_class, b);
+        if shared::is_ascii_pair(self.prev_ascii, b) {
+            return Ran::Live(
+                Visual {
+                    prev: caseless_class,
+                    prev_ascii: true,
+                    prev_punctuation: punctuation,
+                    plausible_punctuation: self.plausible_punctuation,
+                    current_word_len: words.current,
+                    longest_word: words.longest,
+                },
+                0,
+            );
+        }
+        let score = shared::pair_gain(self.prev, caseless_class, alphabetic, marks, pairs, weights);
+        let plausible = Self::is_plausible(self.prev_punctuation, alphabetic);
         Ran::Live(
             Visual {
                 prev: caseless_class,
                 prev_ascii: octets::is_ascii(b),
-                prev_punctuation: shared::is_punctuation(caseless_class, b),
+                prev_punctuation: punctuation,
                 plausible_punctuation: shared::count_if(self.plausible_punctuation, plausible),
                 current_word_len: words.current,
                 longest_word: words.longest,

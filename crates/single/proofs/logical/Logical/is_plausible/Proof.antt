@@ -6,30 +6,26 @@ use borrow.Author.Needs.{needs}
 use Rattle.single.proofs.logical.Logical.is_plausible.Statement.{statement}
 use Rattle.single.proofs.logical.Logical.is_plausible.Tie as tie
 
-returns : tie.Need-returns
-returns c = search needs
-
 is-punctuation-requires : tie.Need-is-punctuation-requires
 is-punctuation-requires c κs = search needs
 
 is-non-latin-alphabetic-requires : tie.Need-is-non-latin-alphabetic-requires
 is-non-latin-alphabetic-requires c κs = search needs
 
+returns : tie.Need-returns
+returns c =
+    let p = c .before .before in
+    let s = p .before .before in
+    let e : punctuationOf (s .args .current) (s .args .b) ≡ true = sym (p .is-punctuation .ensures) ∙ c .before .if1 .taken in
+    rw e (c .is-non-latin-alphabetic .ensures)
+
 returns-2 : tie.Need-returns-2
 returns-2 c =
-    let p = c .before .before in
-    let s = p .before .before .before in
-    let e : punctuationOf (s .args .current) (s .args .b) ≡ true = sym (p .is-punctuation .ensures) ∙ c .before .if2 .taken in
-    rw (p .before .if1 .left, e) (c .is-non-latin-alphabetic .ensures)
-
-returns-3 : tie.Need-returns-3
-returns-3 c =
     let p = c .before in
-    let s = p .before .before .before in
-    let e : punctuationOf (s .args .current) (s .args .b) ≡ false = sym (p .is-punctuation .ensures) ∙ c .if2 .left in
-    rw (p .before .if1 .left, e)
+    let s = p .before .before in
+    let e : punctuationOf (s .args .current) (s .args .b) ≡ false = sym (p .is-punctuation .ensures) ∙ c .if1 .left in
+    rw e
 
 pub is-plausible-spec : {M : Type 1} → statement M
 is-plausible-spec =
-    tie.close
-    (tie.spec returns is-punctuation-requires is-non-latin-alphabetic-requires returns-2 returns-3)
+    tie.close (tie.spec is-punctuation-requires is-non-latin-alphabetic-requires returns returns-2)
