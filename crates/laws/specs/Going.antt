@@ -8,9 +8,9 @@ use native.Mathlib.Omega.{arith}
 use lib.IntN.{ℤ, pos, natAbs, _+ℤ_}
 use lib.ListN.{length, getD, drop, length-drop}
 use mir.Syntax.{w64}
-use mir.Val.{SFits}
+use mir.Val.{SFits, toZ, ofZ}
 use Rattle.laws.specs.Run.{Out, none, live, run, run-done, turn-live, turn-none}
-use Rattle.laws.specs.Sizes.{abs-add, fits64}
+use Rattle.laws.specs.Sizes.{abs-add, fits64, thru, thru64}
 
 -- P n is what holds of a record after n bytes, and a byte changes the score by at most g
 module _ {D S : Type 0} (step : S → ℕ → Out D S) (P : ℕ → S → Type 0) (g : ℕ) where
@@ -47,3 +47,16 @@ module _ {D S : Type 0} (step : S → ℕ → Out D S) (P : ℕ → S → Type 0
           going-fits most short room =
               let p : g * (i + 1) ≤ g * most = mul-le-mul-left g (omega arith) in
               fits64 (s +ℤ k) (omega (arith, sum-small))
+
+          -- the same as the code's own sum of 64 bits
+          module _ (most : ℕ) (short : length xs ≤ most) (room : g * most < 2 ^ 63) where
+            read-gain : toZ w64 (ofZ w64 k) ≡ k
+            read-gain =
+                let p : g * 1 ≤ g * most = mul-le-mul-left g (omega arith) in
+                thru64 k (g * 1) (omega arith) (omega arith)
+
+            pub going-sum-fits : SFits w64 (s +ℤ toZ w64 (ofZ w64 k))
+            going-sum-fits = rw read-gain (going-fits most short room)
+
+            pub going-next : (next : S) → step m (getD xs i 0) ≡ live next k → P (n + i + 1) next → Going n start xs (i + 1) next (toZ w64 (ofZ w64 (s +ℤ toZ w64 (ofZ w64 k))))
+            going-next next e p = rw (thru w64 (s +ℤ toZ w64 (ofZ w64 k)) going-sum-fits, read-gain) (going-turn next e p)

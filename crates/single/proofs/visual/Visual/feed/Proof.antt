@@ -1,14 +1,14 @@
 -- `Visual::feed` meets its contract: the loop of `Going`, whose measure is what is left of the part. Assumes nothing.
 use mathlib.Core.Path.{_≡_, sym, ap, _∙_}
-use Prim.Native.Nat.{ℕ, _+_, _*_, _-_, _≤_}
+use Prim.Native.Nat.{_+_, _*_, _-_, _≤_}
 use native.Mathlib.Omega.{arith}
-use lib.IntN.{ℤ, pos, natAbs, _+ℤ_}
+use lib.IntN.{ℤ, natAbs}
 use lib.ListN.{length, getD}
 use mir.Syntax.{w64}
-use mir.Val.{SFits, toZ, ofZ}
-use Rattle.laws.specs.Going.{Going, going-start, going-turn, going-none, going-done, going-fits}
-use Rattle.laws.specs.Run.{none, live, run}
-use Rattle.laws.specs.Sizes.{thru, thru64}
+use mir.Val.{toZ}
+use Rattle.laws.specs.Going.{Going, going-start, going-next, going-sum-fits, going-none, going-done}
+use Rattle.laws.specs.Limit.{limit}
+use Rattle.laws.specs.Run.{live}
 use Rattle.weights.specs.Weights.{perByte}
 use Rattle.single.specs.Fit.{room}
 use Rattle.single.specs.Lent.{Lent, lent}
@@ -28,7 +28,7 @@ abbrev μ-loop : tie.MeasureT-loop
 abbrev tables : tie.Start Inv-loop μ-loop → Lent
 tables s = lent (s .args .classes .now) (s .args .marks .now) (s .args .pairs .now) (s .args .weights .now)
 
--- in the arm that goes on: what the step gave, and that the sum fits
+-- in the arm that goes on: what the step gave
 module _ (c : tie.After-known-told Inv-loop μ-loop) where
   abbrev at : tie.At-loop Inv-loop μ-loop
   at = c .before .before .before .before .before .before
@@ -39,28 +39,11 @@ module _ (c : tie.After-known-told Inv-loop μ-loop) where
   abbrev gain : ℤ
   gain = c .before .next .given .0 .1 .0
 
-  abbrev score : ℤ
-  score = toZ w64 (at .loop .score)
-
   gave : stepOf (tables start) (at .loop .m) (getD (start .args .part .now) (at .loop .i) 0) ≡ live (c .before .next .given .0 .0) gain
   gave = live-out _ _ _ (sym (c .before .before .before .step .ensures .0) ∙ c .before .next .given .1)
 
   small : natAbs gain ≤ perByte
   small = rw (c .before .next .given .1) at (c .before .before .before .step .ensures .1)
-
-  read-gain : toZ w64 (ofZ w64 gain) ≡ gain
-  read-gain = thru64 gain perByte small (omega arith)
-
-  turn : Going (stepOf (tables start)) Sound perByte room (start .args .self) (start .args .part .now) (at .loop .i + 1) (c .before .next .given .0 .0) (score +ℤ gain)
-  turn =
-      going-turn (stepOf (tables start)) Sound perByte room (start .args .self) (start .args .part .now) (at .loop .i) (at .loop .m) score (at .loop .inv) (c .before .before .before .before .before .loop-test .taken) gain small (c .before .next .given .0 .0) gave
-      (sound-next (tables start) (at .loop .m) (getD (start .args .part .now) (at .loop .i) 0) (room + at .loop .i) (c .before .next .given .0 .0) gain (at .loop .inv .sound) gave)
-
-  sum-fits : SFits w64 (score +ℤ gain)
-  sum-fits = going-fits (stepOf (tables start)) Sound perByte room (start .args .self) (start .args .part .now) (at .loop .i) (at .loop .m) score (at .loop .inv) (c .before .before .before .before .before .loop-test .taken) gain small 268435456 (start .pre .short) (omega arith)
-
-  read-sum : toZ w64 (ofZ w64 (score +ℤ toZ w64 (ofZ w64 gain))) ≡ score +ℤ gain
-  read-sum = rw read-gain (thru w64 (score +ℤ gain) sum-fits)
 
 loop-holds : tie.Need-loop-holds Inv-loop μ-loop
 loop-holds c = going-start (stepOf (tables (c .before .before .before))) Sound perByte room (c .before .before .before .args .self) (c .before .before .before .args .part .now) (c .before .before .before .pre .sound)
@@ -78,7 +61,7 @@ enum-known-next : tie.Need-enum-known-next Inv-loop μ-loop
 enum-known-next c = search needs
 
 add-score : tie.Need-add-score Inv-loop μ-loop
-add-score c = rw (read-gain c) (sum-fits c)
+add-score c = going-sum-fits (stepOf (tables (start c))) Sound perByte room ((start c) .args .self) ((start c) .args .part .now) ((at c) .loop .i) ((at c) .loop .m) (toZ w64 ((at c) .loop .score)) ((at c) .loop .inv) (c .before .before .before .before .before .loop-test .taken) (gain c) (small c) limit (start c .pre .short) (omega arith)
 
 enum-told : tie.Need-enum-told Inv-loop μ-loop
 enum-told c = search needs
@@ -106,7 +89,12 @@ loop-less : tie.Need-loop-less Inv-loop μ-loop
 loop-less c = omega (arith, c .before .before .before .before .before .loop-test .taken)
 
 loop-again : tie.Need-loop-again Inv-loop μ-loop
-loop-again c = rw (read-sum c) (turn c)
+loop-again c =
+    let s = start c in
+    let l = at c in
+    let next = c .before .next .given .0 .0 in
+    going-next (stepOf (tables s)) Sound perByte room (s .args .self) (s .args .part .now) (l .loop .i) (l .loop .m) (toZ w64 (l .loop .score)) (l .loop .inv) (c .before .before .before .before .before .loop-test .taken) (gain c) (small c) limit (s .pre .short) (omega arith) next (gave c)
+    (sound-next (tables s) (l .loop .m) (getD (s .args .part .now) (l .loop .i) 0) (room + l .loop .i) next (gain c) (l .loop .inv .sound) (gave c))
 
 returns-3 : tie.Need-returns-3 Inv-loop μ-loop
 returns-3 c =
