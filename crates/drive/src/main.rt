@@ -15,13 +15,20 @@ use libc::STDOUT_FILENO;
 use place::Place;
 
 // Every two-byte stream from the record, closed.
-fn all_pairs(start: Place, classes: &[u8], marks: &[u8], pairs: &[i16], weights: &[i32]) -> Digest {
+fn all_pairs(
+    start: Place,
+    classes: &[u8],
+    marks: &[u8],
+    pairs: &[i16],
+    weights: &[i32],
+    jis: &[u32],
+) -> Digest {
     let mut d = Digest::fresh();
     let mut stream: usize = 0;
     while stream < 65536 {
         let bytes = [(stream / 256) as u8, (stream % 256) as u8];
-        let first = start.fed(&bytes[..1], classes, marks, pairs, weights);
-        let second = first.fed(&bytes[1..], classes, marks, pairs, weights);
+        let first = start.fed(&bytes[..1], classes, marks, pairs, weights, jis);
+        let second = first.fed(&bytes[1..], classes, marks, pairs, weights, jis);
         let closed = second.closed(classes, marks, pairs, weights);
         d = record::add(record::add(record::add(d, first), second), closed);
         stream += 1;
@@ -38,8 +45,9 @@ fn whole_stream(
     marks: &[u8],
     pairs: &[i16],
     weights: &[i32],
+    jis: &[u32],
 ) -> Digest {
-    let p = start.fed(bytes, classes, marks, pairs, weights);
+    let p = start.fed(bytes, classes, marks, pairs, weights, jis);
     if close {
         return record::add(Digest::fresh(), p.closed(classes, marks, pairs, weights));
     }
@@ -55,12 +63,13 @@ fn one_stream(
     marks: &[u8],
     pairs: &[i16],
     weights: &[i32],
+    jis: &[u32],
 ) -> Digest {
     let mut d = Digest::fresh();
     let mut p = start;
     let mut i = 0;
     while i < bytes.len() {
-        p = p.fed(&bytes[i..i + 1], classes, marks, pairs, weights);
+        p = p.fed(&bytes[i..i + 1], classes, marks, pairs, weights, jis);
         d = record::add(d, p);
         i += 1;
     }
@@ -95,6 +104,7 @@ fn read_bytes(
     marks: &[u8],
     pairs: &[i16],
     weights: &[i32],
+    jis: &[u32],
 ) -> bool
     requires { ⌜ len ≤ 65536 ⌝ }
 {
@@ -103,10 +113,28 @@ fn read_bytes(
         return false;
     }
     if whole {
-        whole_stream(start, &bytes[..len], close, classes, marks, pairs, weights).print();
+        whole_stream(
+            start,
+            &bytes[..len],
+            close,
+            classes,
+            marks,
+            pairs,
+            weights,
+            jis,
+        ).print();
         return true;
     }
-    one_stream(start, &bytes[..len], close, classes, marks, pairs, weights).print();
+    one_stream(
+        start,
+        &bytes[..len],
+        close,
+        classes,
+        marks,
+        pairs,
+        weights,
+        jis,
+    ).print();
     true
 }
 
@@ -117,6 +145,7 @@ fn read_stream(
     marks: &[u8],
     pairs: &[i16],
     weights: &[i32],
+    jis: &[u32],
 ) -> bool {
     let close = next_byte() == 1;
     let mut size = [0u8; 4];
@@ -136,17 +165,20 @@ fn read_stream(
         marks,
         pairs,
         weights,
+        jis,
     )
 }
 
-// One case at place 4 + k: its record, and what the command adds.
+// One case: its record, and what the command adds. The place's tables are the k-th of each array.
 fn case(
     command: usize,
+    place: u8,
     k: usize,
     classes: &[u8],
     marks: &[u8],
     pairs: &[i16],
     weights: &[i32],
+    jis: &[u32],
 ) -> bool
     requires { ⌜ k < 4 ⌝ }
     requires { ⌜ (length (now classes) ≡ 1024) × ((length (now marks) ≡ 512) × (length (now pairs) ≡ 65536)) ⌝ }
@@ -155,19 +187,26 @@ fn case(
     if io::read_full(STDIN_FILENO, &mut bytes) != 40 {
         return false;
     }
-    let start = record::place_of(4 + k as u8, &bytes);
+    let start = record::place_of(place, &bytes);
     let c = &classes[256 * k..256 * k + 256];
     let m = &marks[128 * k..128 * k + 128];
     let p = &pairs[16384 * k..16384 * k + 16384];
     if command == 0x41 {
-        all_pairs(start, c, m, p, weights).print();
+        all_pairs(start, c, m, p, weights, jis).print();
         return true;
     }
-    read_stream(start, command == 0x52, c, m, p, weights)
+    read_stream(start, command == 0x52, c, m, p, weights, jis)
 }
 
 // What follows a command. Answers whether it was well formed.
-fn turn(command: usize, classes: &[u8], marks: &[u8], pairs: &[i16], weights: &[i32]) -> bool
+fn turn(
+    command: usize,
+    classes: &[u8],
+    marks: &[u8],
+    pairs: &[i16],
+    weights: &[i32],
+    jis: &[u32],
+) -> bool
     requires { ⌜ (length (now classes) ≡ 1024) × ((length (now marks) ≡ 512) × (length (now pairs) ≡ 65536)) ⌝ }
 {
     if command != 0x41 {
@@ -178,17 +217,29 @@ fn turn(command: usize, classes: &[u8], marks: &[u8], pairs: &[i16], weights: &[
         }
     }
     let place = next_byte();
+    if place < 2 {
+        return case(command, place as u8, 0, classes, marks, pairs, weights, jis);
+    }
     if place < 4 {
         return false;
     }
     if 7 < place {
         return false;
     }
-    case(command, place - 4, classes, marks, pairs, weights)
+    case(
+        command,
+        place as u8,
+        place - 4,
+        classes,
+        marks,
+        pairs,
+        weights,
+        jis,
+    )
 }
 
 // The cases until the end of the input or new lent data; answers whether that follows.
-fn cases(classes: &[u8], marks: &[u8], pairs: &[i16], weights: &[i32]) -> bool
+fn cases(classes: &[u8], marks: &[u8], pairs: &[i16], weights: &[i32], jis: &[u32]) -> bool
     requires { ⌜ (length (now classes) ≡ 1024) × ((length (now marks) ≡ 512) × (length (now pairs) ≡ 65536)) ⌝ }
 {
     let mut count: usize = 0;
@@ -200,7 +251,7 @@ fn cases(classes: &[u8], marks: &[u8], pairs: &[i16], weights: &[i32]) -> bool
         if command == 0x54 {
             return true;
         }
-        if !turn(command, classes, marks, pairs, weights) {
+        if !turn(command, classes, marks, pairs, weights, jis) {
             io::write_all(STDOUT_FILENO, b"bad input\n");
             return false;
         }
@@ -215,11 +266,12 @@ fn block() -> bool {
     let mut marks = [0u8; 512];
     let mut pairs = [0i16; 65536];
     let mut weights = [0i32; 17];
-    if !tables::read_all(&mut classes, &mut marks, &mut pairs, &mut weights) {
+    let mut jis = [0u32; 8836];
+    if !tables::read_all(&mut classes, &mut marks, &mut pairs, &mut weights, &mut jis) {
         io::write_all(STDOUT_FILENO, b"bad input\n");
         return false;
     }
-    cases(&classes, &marks, &pairs, &weights)
+    cases(&classes, &marks, &pairs, &weights, &jis)
 }
 
 fn main() {

@@ -1,4 +1,6 @@
 // One machine with its score, or none.
+use iso2022jp;
+use iso2022jp::Iso2022Jp;
 use single::arabic_french;
 use single::arabic_french::ArabicFrench;
 use single::caseless;
@@ -7,8 +9,12 @@ use single::logical;
 use single::logical::Logical;
 use single::visual;
 use single::visual::Visual;
+use utf8;
+use utf8::Utf8;
 
 pub(crate) enum Machine {
+    Utf8(Utf8),
+    Iso2022Jp(Iso2022Jp),
     Caseless(Caseless),
     Logical(Logical),
     Visual(Visual),
@@ -28,6 +34,22 @@ fn sum(score: i64, change: i64) -> i64 {
         }
     }
     0
+}
+
+fn of_utf8(r: utf8::Ran, score: i64) -> Place {
+    match r {
+        utf8::Ran::Live(m) => Place::Live(Machine::Utf8(m), score),
+        utf8::Ran::Dropped => Place::None,
+        utf8::Ran::Unfit => Place::None,
+    }
+}
+
+fn of_iso2022jp(r: iso2022jp::Ran, score: i64) -> Place {
+    match r {
+        iso2022jp::Ran::Live(m) => Place::Live(Machine::Iso2022Jp(m), score),
+        iso2022jp::Ran::Dropped => Place::None,
+        iso2022jp::Ran::Unfit => Place::None,
+    }
 }
 
 fn of_caseless(r: caseless::Ran, score: i64) -> Place {
@@ -73,11 +95,14 @@ impl Place {
         marks: &[u8],
         pairs: &[i16],
         weights: &[i32],
+        jis: &[u32],
     ) -> Place {
         let Place::Live(machine, score) = self else {
             return self;
         };
         match machine {
+            Machine::Utf8(m) => of_utf8(m.run(part), score),
+            Machine::Iso2022Jp(m) => of_iso2022jp(m.run(part, jis), score),
             Machine::Caseless(m) => of_caseless(m.run(part, classes, marks, pairs, weights), score),
             Machine::Logical(m) => of_logical(m.run(part, classes, marks, pairs, weights), score),
             Machine::Visual(m) => of_visual(m.run(part, classes, marks, pairs, weights), score),
@@ -98,6 +123,8 @@ impl Place {
             return self;
         };
         match machine {
+            Machine::Utf8(m) => of_utf8(m.close(), score),
+            Machine::Iso2022Jp(m) => of_iso2022jp(m.close(), score),
             Machine::Caseless(m) => of_caseless(m.close(classes, marks, pairs, weights), score),
             Machine::Logical(m) => of_logical(m.close(classes, marks, pairs, weights), score),
             Machine::Visual(m) => of_visual(m.close(classes, marks, pairs, weights), score),

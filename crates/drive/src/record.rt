@@ -3,17 +3,22 @@ use crate::digest::Digest;
 use crate::number;
 use crate::place::Machine;
 use crate::place::Place;
+use iso2022jp::DecoderState;
+use iso2022jp::Iso2022Jp;
+use iso2022jp::OutputState;
 use single::arabic_french::ArabicFrench;
 use single::arabic_french::LatinCaseState;
 use single::caseless::Caseless;
 use single::logical::Logical;
 use single::visual::Visual;
+use utf8::Utf8;
 
 // The fields that are laid out alike for every place.
 struct Fields {
     a: u8,
     b: u8,
     c: u8,
+    d: u8,
     x: u64,
     y: u64,
     z: u64,
@@ -32,6 +37,48 @@ fn case_number(c: LatinCaseState) -> u8 {
     }
 }
 
+fn state_number(s: DecoderState) -> u8 {
+    match s {
+        DecoderState::Ascii => 0,
+        DecoderState::Roman => 1,
+        DecoderState::Katakana => 2,
+        DecoderState::LeadByte => 3,
+        DecoderState::TrailByte => 4,
+        DecoderState::EscapeStart => 5,
+        DecoderState::Escape => 6,
+    }
+}
+
+fn state_of(n: u8) -> DecoderState {
+    match n {
+        0 => DecoderState::Ascii,
+        1 => DecoderState::Roman,
+        2 => DecoderState::Katakana,
+        3 => DecoderState::LeadByte,
+        4 => DecoderState::TrailByte,
+        5 => DecoderState::EscapeStart,
+        _ => DecoderState::Escape,
+    }
+}
+
+fn out_number(s: OutputState) -> u8 {
+    match s {
+        OutputState::Ascii => 0,
+        OutputState::Roman => 1,
+        OutputState::Katakana => 2,
+        OutputState::LeadByte => 3,
+    }
+}
+
+fn out_of(n: u8) -> OutputState {
+    match n {
+        0 => OutputState::Ascii,
+        1 => OutputState::Roman,
+        2 => OutputState::Katakana,
+        _ => OutputState::LeadByte,
+    }
+}
+
 fn case_of(n: u8) -> LatinCaseState {
     if n == 1 {
         return LatinCaseState::Upper;
@@ -47,10 +94,33 @@ fn case_of(n: u8) -> LatinCaseState {
 
 fn fields_of(m: Machine) -> Fields {
     match m {
+        Machine::Utf8(m) => Fields {
+            a: m.need,
+            b: m.lo,
+            c: m.hi,
+            d: 0,
+            x: 0,
+            y: 0,
+            z: 0,
+        },
+        Machine::Iso2022Jp(m) => {
+            let state = m.state;
+            let out = m.out;
+            Fields {
+                a: state_number(state),
+                b: out_number(out),
+                c: m.lead,
+                d: flag(m.output),
+                x: 0,
+                y: 0,
+                z: 0,
+            }
+        }
         Machine::Caseless(m) => Fields {
             a: m.prev,
             b: flag(m.prev_ascii),
             c: 0,
+            d: 0,
             x: m.current_word_len,
             y: m.longest_word,
             z: 0,
@@ -59,6 +129,7 @@ fn fields_of(m: Machine) -> Fields {
             a: m.prev,
             b: flag(m.prev_ascii),
             c: 0,
+            d: 0,
             x: m.current_word_len,
             y: m.longest_word,
             z: m.plausible_punctuation,
@@ -67,6 +138,7 @@ fn fields_of(m: Machine) -> Fields {
             a: m.prev,
             b: flag(m.prev_ascii),
             c: flag(m.prev_punctuation),
+            d: 0,
             x: m.current_word_len,
             y: m.longest_word,
             z: m.plausible_punctuation,
@@ -77,6 +149,7 @@ fn fields_of(m: Machine) -> Fields {
                 a: m.prev,
                 b: flag(m.prev_ascii),
                 c: case_number(case_state),
+                d: 0,
                 x: m.current_word_len,
                 y: m.longest_word,
                 z: 0,
@@ -96,12 +169,31 @@ pub(crate) fn add(d: Digest, p: Place) -> Digest {
     };
     let f = fields_of(machine);
     let head = d.with_byte(1).with_byte(f.a).with_byte(f.b).with_byte(f.c);
-    let named = head.with_byte(0).with_byte(0).with_byte(0).with_byte(0);
+    let named = head.with_byte(f.d).with_byte(0).with_byte(0).with_byte(0);
     let scored = named.with_number(signed::bits(score));
     scored.with_number(f.x).with_number(f.y).with_number(f.z)
 }
 
 fn machine_of(place: u8, f: Fields) -> Machine {
+    if place == 0 {
+        return Machine::Utf8(Utf8 {
+            need: f.a,
+            lo: f.b,
+            hi: f.c,
+        });
+    }
+    if place == 1 {
+        return Machine::Iso2022Jp(Iso2022Jp {
+            state: state_of(f.a),
+            out: out_of(f.b),
+            lead: f.c,
+            output: f.d == 1,
+        });
+    }
+    single_of(place, f)
+}
+
+fn single_of(place: u8, f: Fields) -> Machine {
     if place == 4 {
         return Machine::Caseless(Caseless {
             prev: f.a,
@@ -147,6 +239,7 @@ pub(crate) fn place_of(place: u8, bytes: &[u8]) -> Place {
         a: number::byte(bytes, 1),
         b: number::byte(bytes, 2),
         c: number::byte(bytes, 3),
+        d: number::byte(bytes, 4),
         x: number::eight(bytes, 16),
         y: number::eight(bytes, 24),
         z: number::eight(bytes, 32),

@@ -11,6 +11,7 @@ pub(crate) fn read_all(
     marks: &mut [u8],
     pairs: &mut [i16],
     weights: &mut [i32],
+    jis: &mut [u32],
 ) -> bool
     requires { ⌜ (length (now classes) ≡ 1024) × ((length (now marks) ≡ 512) × (length (now pairs) ≡ 65536)) ⌝ }
 {
@@ -26,10 +27,21 @@ pub(crate) fn read_all(
     if !read_place(3, classes, marks, pairs) {
         return false;
     }
-    if skip_indexes() {
-        return read_weights(weights);
+    read_rest(weights, jis)
+}
+
+// What follows the four places' tables.
+fn read_rest(weights: &mut [i32], jis: &mut [u32]) -> bool {
+    if !skip(24) {
+        return false;
     }
-    false
+    if !read_jis(jis) {
+        return false;
+    }
+    if !skip_extras() {
+        return false;
+    }
+    read_weights(weights)
 }
 
 fn read_place(k: usize, classes: &mut [u8], marks: &mut [u8], pairs: &mut [i16]) -> bool
@@ -90,20 +102,47 @@ fn read_weights(weights: &mut [i32]) -> bool {
     true
 }
 
-// Passes over 7,268 bytes.
+// Passes over 7,287 bytes.
 fn skip_piece() -> bool {
-    let mut bytes = [0u8; 7268];
-    io::read_full(STDIN_FILENO, &mut bytes) == 7268
+    let mut bytes = [0u8; 7287];
+    io::read_full(STDIN_FILENO, &mut bytes) == 7287
 }
 
-// Passes over what stands between the single-byte places' tables and the weights: 232,576 bytes.
-fn skip_indexes() -> bool {
+// Passes over that many pieces; the Big5 and the EUC-KR index are 24.
+fn skip(pieces: usize) -> bool {
     let mut i: usize = 0;
-    while i < 32 {
+    while i < pieces {
         if !skip_piece() {
             return false;
         }
         i += 1;
     }
     true
+}
+
+// Passes over the Hangul extras.
+fn skip_extras() -> bool {
+    let mut bytes = [0u8; 22344];
+    io::read_full(STDIN_FILENO, &mut bytes) == 22344
+}
+
+fn read_jis(jis: &mut [u32]) -> bool {
+    let mut bytes = [0u8; 35344];
+    let n = io::read_full(STDIN_FILENO, &mut bytes);
+    if n != 35344 {
+        return false;
+    }
+    words(&bytes[..n], jis);
+    true
+}
+
+fn words(from: &[u8], to: &mut [u32]) {
+    let mut i: usize = 0;
+    while i < to.len() {
+        if 1000000 < i {
+            return;
+        }
+        to[i] = number::four(from, 4 * i) as u32;
+        i += 1;
+    }
 }

@@ -5,10 +5,10 @@ use Rattle.drive.proofs.all_pairs.Statement.{statement}
 use Rattle.drive.proofs.all_pairs.Tie as tie
 
 abbrev Inv-loop : tie.InvT-loop
-Inv-loop start classes marks pairs weights d₀ stream₀ d stream = stream ≤ 65536
+Inv-loop start classes marks pairs weights jis d₀ stream₀ d stream = stream ≤ 65536
 
 abbrev μ-loop : tie.MeasureT-loop
-μ-loop start classes marks pairs weights d₀ stream₀ d stream = 65536 - stream
+μ-loop start classes marks pairs weights jis d₀ stream₀ d stream = 65536 - stream
 
 fresh-requires : tie.Need-fresh-requires Inv-loop μ-loop
 fresh-requires c κs = search needs
@@ -16,11 +16,11 @@ fresh-requires c κs = search needs
 loop-holds : tie.Need-loop-holds Inv-loop μ-loop
 loop-holds c = search needs
 
-cast-t14 : tie.Need-cast-t14 Inv-loop μ-loop
-cast-t14 c = search needs
+cast-t15 : tie.Need-cast-t15 Inv-loop μ-loop
+cast-t15 c = search needs
 
-cast-t16 : tie.Need-cast-t16 Inv-loop μ-loop
-cast-t16 c = search needs
+cast-t17 : tie.Need-cast-t17 Inv-loop μ-loop
+cast-t17 c = search needs
 
 array-share-prefix-bytes : tie.Need-array-share-prefix-bytes Inv-loop μ-loop
 array-share-prefix-bytes c = search needs
@@ -75,8 +75,8 @@ all-pairs-spec =
     μ-loop
     fresh-requires
     loop-holds
-    cast-t14
-    cast-t16
+    cast-t15
+    cast-t17
     array-share-prefix-bytes
     slice-aggregate-fed
     fed-requires

@@ -5,10 +5,10 @@ use Rattle.drive.proofs.cases.Statement.{statement}
 use Rattle.drive.proofs.cases.Tie as tie
 
 abbrev Inv-loop : tie.InvT-loop
-Inv-loop classes marks pairs weights count₀ t7 count = count ≤ 10000000
+Inv-loop classes marks pairs weights jis count₀ t8 count = count ≤ 10000000
 
 abbrev μ-loop : tie.MeasureT-loop
-μ-loop classes marks pairs weights count₀ t7 count = 10000000 - count
+μ-loop classes marks pairs weights jis count₀ t8 count = 10000000 - count
 
 loop-holds : tie.Need-loop-holds Inv-loop μ-loop
 loop-holds c = search needs

@@ -6,10 +6,10 @@ use Rattle.drive.proofs.one_stream.Statement.{statement}
 use Rattle.drive.proofs.one_stream.Tie as tie
 
 abbrev Inv-loop : tie.InvT-loop
-Inv-loop bytes close classes marks pairs weights d₀ p₀ i₀ d p i = i ≤ length bytes
+Inv-loop bytes close classes marks pairs weights jis d₀ p₀ i₀ d p i = i ≤ length bytes
 
 abbrev μ-loop : tie.MeasureT-loop
-μ-loop bytes close classes marks pairs weights d₀ p₀ i₀ d p i = length bytes - i
+μ-loop bytes close classes marks pairs weights jis d₀ p₀ i₀ d p i = length bytes - i
 
 fresh-requires : tie.Need-fresh-requires Inv-loop μ-loop
 fresh-requires c κs = search needs

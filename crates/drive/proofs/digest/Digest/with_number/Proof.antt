@@ -1,4 +1,4 @@
--- `Digest::with_number` is safe and ends. Assumes nothing.
+-- `with_number` is safe and ends. Assumes nothing.
 use Prim.Native.Nat.{_-_, _≤_}
 use borrow.Author.Needs.{needs}
 use Rattle.drive.proofs.digest.Digest.with_number.Statement.{statement}

@@ -1,14 +1,14 @@
--- `skip_indexes` is safe and ends. Assumes nothing.
+-- `skip` is safe and ends. Assumes nothing.
 use Prim.Native.Nat.{_-_, _≤_}
 use borrow.Author.Needs.{needs}
-use Rattle.drive.proofs.tables.skip_indexes.Statement.{statement}
-use Rattle.drive.proofs.tables.skip_indexes.Tie as tie
+use Rattle.drive.proofs.tables.skip.Statement.{statement}
+use Rattle.drive.proofs.tables.skip.Tie as tie
 
 abbrev Inv-loop : tie.InvT-loop
-Inv-loop i₀ i = i ≤ 32
+Inv-loop pieces i₀ i = i ≤ pieces
 
 abbrev μ-loop : tie.MeasureT-loop
-μ-loop i₀ i = 32 - i
+μ-loop pieces i₀ i = pieces - i
 
 loop-holds : tie.Need-loop-holds Inv-loop μ-loop
 loop-holds c = search needs
@@ -31,8 +31,8 @@ loop-again c = search needs
 returns-2 : tie.Need-returns-2 Inv-loop μ-loop
 returns-2 c = search needs
 
-pub skip-indexes-spec : {M : Type 1} → statement M
-skip-indexes-spec =
+pub skip-spec : {M : Type 1} → statement M
+skip-spec =
     tie.close
     (tie.spec
     Inv-loop
