@@ -1,0 +1,521 @@
+// EUC-KR: the Standard's decoder over a lent index, and the scoring machine over what it yields.
+use pairs::Decoded;
+use pairs::Event;
+use pairs::Held;
+
+// The kind of what came before.
+pub enum LatinKorean {
+    AsciiLetter,
+    Hangul,
+    Hanja,
+    Other,
+}
+
+pub struct EucKr {
+    pub lead: u8,
+    pub prev_byte: u8,
+    pub prev_was_euc_range: bool,
+    pub prev: LatinKorean,
+    pub current_word_len: u64,
+    pub held: Held,
+}
+
+// What a stretch gives: the record after it and by how much the score changed, or none; or it was not fit to be run.
+pub enum Ran {
+    Live(EucKr, i64),
+    Dropped,
+    Unfit,
+}
+
+// What one byte gives.
+enum Stepped {
+    Live(EucKr, i64),
+    Dropped,
+}
+
+// The weights that this machine uses.
+struct Scale {
+    adjacency: i64,
+    other: i64,
+    euc_hangul: i64,
+    non_euc_hangul: i64,
+    hanja: i64,
+    after_hangul: i64,
+    pua: i64,
+    mac: i64,
+    extension: i64,
+    long_word: i64,
+}
+
+// What a byte makes of a record, but for its lead, its previous byte and the range of that.
+struct Scored {
+    prev: LatinKorean,
+    word: u64,
+    held: Held,
+    gain: i64,
+}
+
+// ---- the decoder
+fn is_trail(b: u8) -> bool {
+    if b < 0x41 {
+        return false;
+    }
+    b < 0xFF
+}
+
+fn pointer(lead: u8, b: u8) -> usize {
+    (lead - 0x81) as usize * 190 + (b - 0x41) as usize
+}
+
+fn is_mapped(entry: u32) -> bool {
+    if entry < 0x80 {
+        return false;
+    }
+    if entry < 0xD800 {
+        return true;
+    }
+    if entry < 0xE000 {
+        return false;
+    }
+    entry < 0x10000
+}
+
+// A lead and the byte after it.
+fn pair(lead: u8, b: u8, index: &[u32]) -> Event {
+    if is_trail(b) {
+        let entry = index[pointer(lead, b)];
+        if is_mapped(entry) {
+            return Event::Point(entry);
+        }
+    }
+    pairs::malformed(b)
+}
+
+fn decode(lead: u8, b: u8, index: &[u32]) -> Decoded {
+    if lead == 0 {
+        return pairs::first(b);
+    }
+    let event = pair(lead, b, index);
+    Decoded { lead: 0, event }
+}
+
+// ---- what the tests of a byte or a unit say
+fn is_euc(b: u8) -> bool {
+    if b < 0xA1 {
+        return false;
+    }
+    b < 0xFF
+}
+
+fn is_hangul(u: u32) -> bool {
+    if u < 0xAC00 {
+        return false;
+    }
+    u < 0xD7A4
+}
+
+fn is_hanja(u: u32) -> bool {
+    if u < 0x4E00 {
+        return false;
+    }
+    if u < 0xAC00 {
+        return true;
+    }
+    if u < 0xF900 {
+        return false;
+    }
+    u < 0xFA0C
+}
+
+fn weight(weights: &[i32], k: usize) -> i64 {
+    weights[k] as i64
+}
+
+// The extra of a Hangul.
+fn extra(extras: &[i16], u: u32) -> i64 {
+    extras[(u - 0xAC00) as usize] as i64
+}
+
+impl Scale {
+    fn read(weights: &[i32]) -> Scale {
+        Scale {
+            adjacency: weight(weights, weights::CJK_LATIN_ADJACENCY),
+            other: weight(weights, weights::CJK_OTHER),
+            euc_hangul: weight(weights, weights::EUC_HANGUL),
+            non_euc_hangul: weight(weights, weights::NON_EUC_HANGUL),
+            hanja: weight(weights, weights::HANJA),
+            after_hangul: weight(weights, weights::HANJA_AFTER_HANGUL),
+            pua: weight(weights, weights::EUC_KR_PUA),
+            mac: weight(weights, weights::MAC_KOREAN),
+            extension: weight(weights, weights::EUC_KR_EXTENSION),
+            long_word: weight(weights, weights::LONG_WORD),
+        }
+    }
+
+    // What a Hangul adds that stands after this kind.
+    fn hangul_after(self, prev: LatinKorean) -> i64 {
+        match prev {
+            LatinKorean::AsciiLetter => self.adjacency,
+            LatinKorean::Hangul => 0,
+            LatinKorean::Hanja => 0,
+            LatinKorean::Other => 0,
+        }
+    }
+
+    // What a Hanja adds that stands after this kind.
+    fn hanja_after(self, prev: LatinKorean) -> i64 {
+        match prev {
+            LatinKorean::AsciiLetter => self.adjacency,
+            LatinKorean::Hangul => self.after_hangul,
+            LatinKorean::Hanja => 0,
+            LatinKorean::Other => 0,
+        }
+    }
+
+    // What a letter adds that stands after this kind.
+    fn letter_after(self, prev: LatinKorean) -> i64 {
+        match prev {
+            LatinKorean::AsciiLetter => 0,
+            LatinKorean::Hangul => self.adjacency,
+            LatinKorean::Hanja => self.adjacency,
+            LatinKorean::Other => 0,
+        }
+    }
+
+    // What a word adds that has become this long.
+    fn of_word(self, word: u64) -> i64 {
+        if 5 < word {
+            return self.long_word;
+        }
+        0
+    }
+}
+
+impl EucKr {
+    pub const INDEX: usize = 23940;
+
+    pub const EXTRAS: usize = 11172;
+
+    pub fn fresh() -> EucKr {
+        EucKr {
+            lead: 0,
+            prev_byte: 0,
+            prev_was_euc_range: false,
+            prev: LatinKorean::Other,
+            current_word_len: 0,
+            held: Held::Nothing,
+        }
+    }
+
+    // Whether the score of a Hangul outside the EUC range waits for what follows.
+    fn holds(self) -> bool {
+        let prev = self.prev;
+        match prev {
+            LatinKorean::AsciiLetter => octets::problematic_lead(self.prev_byte),
+            LatinKorean::Hangul => false,
+            LatinKorean::Hanja => octets::problematic_lead(self.prev_byte),
+            LatinKorean::Other => octets::problematic_lead(self.prev_byte),
+        }
+    }
+
+    // A letter discards what is held.
+    fn letter(self, w: Scale) -> Scored {
+        Scored {
+            prev: LatinKorean::AsciiLetter,
+            word: 0,
+            held: Held::Nothing,
+            gain: w.letter_after(self.prev),
+        }
+    }
+
+    // What a Hangul adds besides its own score: what is held, its neighbour, its word.
+    fn around_hangul(self, w: Scale) -> i64 {
+        let held = self.held;
+        held.released() + w.hangul_after(self.prev) + w.of_word(self.current_word_len + 1)
+    }
+
+    // A Hangul of two bytes in the EUC range.
+    fn euc_hangul(self, u: u32, extras: &[i16], w: Scale) -> Scored {
+        Scored {
+            prev: LatinKorean::Hangul,
+            word: self.current_word_len + 1,
+            held: Held::Nothing,
+            gain: self.around_hangul(w) + w.euc_hangul + extra(extras, u),
+        }
+    }
+
+    // Any other Hangul: its score may be held.
+    fn non_euc_hangul(self, w: Scale) -> Scored {
+        let gain = self.around_hangul(w);
+        if self.holds() {
+            return Scored {
+                prev: LatinKorean::Hangul,
+                word: self.current_word_len + 1,
+                held: Held::Score(w.non_euc_hangul),
+                gain,
+            };
+        }
+        Scored {
+            prev: LatinKorean::Hangul,
+            word: self.current_word_len + 1,
+            held: Held::Nothing,
+            gain: gain + w.non_euc_hangul,
+        }
+    }
+
+    fn hangul(self, u: u32, b: u8, extras: &[i16], w: Scale) -> Scored {
+        if self.prev_was_euc_range {
+            if is_euc(b) {
+                return self.euc_hangul(u, extras, w);
+            }
+        }
+        self.non_euc_hangul(w)
+    }
+
+    // A Hanja, or a pair that counts as one.
+    fn hanja(self, own: i64, w: Scale) -> Scored {
+        let held = self.held;
+        let word = self.current_word_len + 1;
+        Scored {
+            prev: LatinKorean::Hanja,
+            word,
+            held: Held::Nothing,
+            gain: held.released() + own + w.hanja_after(self.prev) + w.of_word(word),
+        }
+    }
+
+    // Anything else that is no ASCII: what is held is released, and its own score added.
+    fn other(self, own: i64) -> Scored {
+        let held = self.held;
+        Scored {
+            prev: LatinKorean::Other,
+            word: 0,
+            held: Held::Nothing,
+            gain: held.released() + own,
+        }
+    }
+
+    fn unit(self, u: u32, b: u8, extras: &[i16], w: Scale) -> Scored {
+        if pairs::is_letter(u) {
+            return self.letter(w);
+        }
+        if is_hangul(u) {
+            return self.hangul(u, b, extras, w);
+        }
+        if is_hanja(u) {
+            return self.hanja(w.hanja, w);
+        }
+        if u < 0x80 {
+            return plain(0);
+        }
+        self.other(w.other)
+    }
+}
+
+// What is held is discarded, and the kind is Other.
+fn plain(gain: i64) -> Scored {
+    Scored {
+        prev: LatinKorean::Other,
+        word: 0,
+        held: Held::Nothing,
+        gain,
+    }
+}
+
+// Whether the byte before and this one are a pair that code page 949 leaves to its users.
+fn is_user_pair(prev_byte: u8, b: u8) -> bool {
+    if prev_byte == 0xC9 {
+        return is_euc(b);
+    }
+    if prev_byte == 0xFE {
+        return is_euc(b);
+    }
+    false
+}
+
+fn is_mac_lead(b: u8) -> bool {
+    match b {
+        0xA1 | 0xA3..=0xA8 | 0xAA..=0xAD => true,
+        _ => false,
+    }
+}
+
+// Whether they are a symbol of MacKorean outside code page 949.
+fn is_mac_symbol(prev_byte: u8, b: u8) -> bool {
+    if b < 0x7B {
+        return false;
+    }
+    if 0x7D < b {
+        return false;
+    }
+    is_mac_lead(prev_byte)
+}
+
+// Whether the byte before is a single-byte extension where it stands before ASCII, 80 or FF.
+fn is_extension(prev_byte: u8) -> bool {
+    if prev_byte < 0x81 {
+        return false;
+    }
+    prev_byte < 0x85
+}
+
+// The extensions that are no leads.
+fn is_lone(b: u8) -> bool {
+    if b == 0x80 {
+        return true;
+    }
+    b == 0xFF
+}
+
+// An extension byte with the byte after it: ASCII, or an extension too.
+fn extension(b: u8, w: Scale) -> Scored {
+    if is_lone(b) {
+        return plain(w.extension + w.extension);
+    }
+    if octets::is_ascii_letter(b) {
+        return Scored {
+            prev: LatinKorean::AsciiLetter,
+            word: 0,
+            held: Held::Nothing,
+            gain: w.extension,
+        };
+    }
+    plain(w.extension)
+}
+
+// The record after a byte.
+fn after(lead: u8, b: u8, s: Scored) -> Stepped {
+    let prev = s.prev;
+    let held = s.held;
+    Stepped::Live(
+        EucKr {
+            lead,
+            prev_byte: b,
+            prev_was_euc_range: is_euc(b),
+            prev,
+            current_word_len: s.word,
+            held,
+        },
+        s.gain,
+    )
+}
+
+impl EucKr {
+    // An error that is neither a pair nor a symbol: an extension, or the machine drops out.
+    fn stray(self, lead: u8, b: u8, length: u8, w: Scale) -> Stepped {
+        if is_extension(self.prev_byte) {
+            if b < 0x80 {
+                return after(lead, b, extension(b, w));
+            }
+            if is_lone(b) {
+                return after(lead, b, extension(b, w));
+            }
+        }
+        if length == 1 {
+            if is_lone(b) {
+                return after(lead, b, plain(w.extension));
+            }
+        }
+        Stepped::Dropped
+    }
+
+    fn error(self, lead: u8, b: u8, length: u8, w: Scale) -> Stepped {
+        if is_user_pair(self.prev_byte, b) {
+            return after(lead, b, self.hanja(w.pua, w));
+        }
+        if is_mac_symbol(self.prev_byte, b) {
+            return after(lead, b, self.other(w.mac));
+        }
+        self.stray(lead, b, length, w)
+    }
+
+    // A lead changes nothing else.
+    fn pending(self, lead: u8, b: u8) -> Stepped {
+        let prev = self.prev;
+        let held = self.held;
+        Stepped::Live(
+            EucKr {
+                lead,
+                prev_byte: b,
+                prev_was_euc_range: is_euc(b),
+                prev,
+                current_word_len: self.current_word_len,
+                held,
+            },
+            0,
+        )
+    }
+
+    fn step(self, b: u8, index: &[u32], extras: &[i16], w: Scale) -> Stepped {
+        let d = decode(self.lead, b, index);
+        let event = d.event;
+        match event {
+            Event::Pending => self.pending(d.lead, b),
+            Event::Point(point) => after(d.lead, b, self.unit(point, b, extras, w)),
+            Event::Two(first, _) => after(d.lead, b, self.unit(first, b, extras, w)),
+            Event::Error(length) => self.error(d.lead, b, length, w),
+        }
+    }
+
+    fn go(self, part: &[u8], index: &[u32], extras: &[i16], w: Scale) -> Ran {
+        let mut m = self;
+        let mut s: i64 = 0;
+        let mut i = 0;
+        while i < part.len() {
+            match m.step(part[i], index, extras, w) {
+                Stepped::Live(next, gain) => {
+                    m = next;
+                    s = s + gain;
+                }
+                Stepped::Dropped => {
+                    return Ran::Dropped;
+                }
+            }
+            i += 1;
+        }
+        Ran::Live(m, s)
+    }
+
+    // Whether the record is one that `bytes` bytes can have led to.
+    pub fn is_sound_for(self, bytes: u64) -> bool {
+        if pairs::is_lead_or_none(self.lead) {
+            if self.current_word_len <= bytes {
+                let held = self.held;
+                return held.is_small();
+            }
+        }
+        false
+    }
+
+    pub fn run(self, part: &[u8], index: &[u32], extras: &[i16], weights: &[i32]) -> Ran {
+        if is_ready(self, part, index, extras, weights) {
+            return self.go(part, index, extras, Scale::read(weights));
+        }
+        Ran::Unfit
+    }
+
+    // The end of the stream: none where a lead is pending. A held score counts nothing, and stays.
+    pub fn close(self) -> Ran {
+        if self.is_sound_for(268435456) {
+            if self.lead == 0 {
+                return Ran::Live(self, 0);
+            }
+            return Ran::Dropped;
+        }
+        Ran::Unfit
+    }
+}
+
+// Whether all is in order for a run.
+fn is_ready(m: EucKr, part: &[u8], index: &[u32], extras: &[i16], weights: &[i32]) -> bool {
+    if m.is_sound_for(268435456) {
+        if part.len() <= 268435456 {
+            if index.len() == 23940 {
+                if extras.len() == 11172 {
+                    return weights.len() == 17;
+                }
+            }
+        }
+    }
+    false
+}

@@ -1,0 +1,99 @@
+// What Big5 and EUC-KR share: the frame of the Standard's pair decoders, and the held score.
+
+// What a decoder yields at a byte: nothing yet, one code point, two, or an error of so many bytes.
+pub enum Event {
+    Pending,
+    Point(u32),
+    Two(u32, u32),
+    Error(u8),
+}
+
+// The decoder's lead after a byte, and what the byte yields.
+pub struct Decoded {
+    pub lead: u8,
+    pub event: Event,
+}
+
+// A score that waits for what follows (`pending_score` in the Rust).
+pub enum Held {
+    Nothing,
+    Score(i64),
+}
+
+pub fn is_lead(b: u8) -> bool {
+    if b < 0x81 {
+        return false;
+    }
+    b < 0xFF
+}
+
+// Whether a decoder can hold it: a lead, or 0.
+pub fn is_lead_or_none(lead: u8) -> bool {
+    if lead == 0 {
+        return true;
+    }
+    is_lead(lead)
+}
+
+// The error of a lead with a byte that makes no pair with it: the byte is part of it unless it is ASCII.
+pub fn malformed(b: u8) -> Event {
+    if b < 0x80 {
+        return Event::Error(1);
+    }
+    Event::Error(2)
+}
+
+// A byte where no lead is pending.
+pub fn first(b: u8) -> Decoded {
+    if b < 0x80 {
+        let point = b as u32;
+        return Decoded {
+            lead: 0,
+            event: Event::Point(point),
+        };
+    }
+    if is_lead(b) {
+        return Decoded {
+            lead: b,
+            event: Event::Pending,
+        };
+    }
+    Decoded {
+        lead: 0,
+        event: Event::Error(1),
+    }
+}
+
+pub fn is_letter(u: u32) -> bool {
+    if u < 0x41 {
+        return false;
+    }
+    if u < 0x5B {
+        return true;
+    }
+    if u < 0x61 {
+        return false;
+    }
+    u < 0x7B
+}
+
+impl Held {
+    // The largest size of a held score.
+    pub const MOST: i64 = 2147483648;
+
+    // What a release adds to the score.
+    pub fn released(self) -> i64 {
+        match self {
+            Held::Nothing => 0,
+            Held::Score(s) => s,
+        }
+    }
+
+    pub fn is_small(self) -> bool {
+        let s = self.released();
+        if s < 0 {
+            return -2147483648 <= s;
+        }
+        s <= 2147483648
+    }
+}
