@@ -301,12 +301,18 @@ fn main() {
         let mut i = 0;
         while i < length {
             record = turn(place, &start, &bytes[..i + 1], &big5_index, &euckr_index, &extras, &weights);
-            io::write_all(STDOUT_FILENO, &record);
+            d = d.with_all(&record);
             i += 1;
         }
         if close == 1 {
             record = closed(place, &record);
-            io::write_all(STDOUT_FILENO, &record);
+            d = d.with_all(&record);
         }
     }
+    io::print_decimal(STDOUT_FILENO, d.h1);
+    io::write_all(STDOUT_FILENO, b" ");
+    io::print_decimal(STDOUT_FILENO, d.h2);
+    io::write_all(STDOUT_FILENO, b" ");
+    io::print_decimal(STDOUT_FILENO, d.length);
+    io::write_all(STDOUT_FILENO, b"\n");
 }

@@ -1,4 +1,8 @@
 // What Big5 and EUC-KR share: the frame of the Standard's pair decoders, and the held score.
+ghost use mathlib.Core.Path.{_≡_};
+ghost use Prim.Native.Nat.{_≤_};
+ghost use Rattle.octets.specs.Octets.{letter};
+ghost use Rattle.pairs.specs.Pairs.{isLead, isLeadOrNone, malformedOf, firstOf, releasedOf, smallHeldB};
 
 // What a decoder yields at a byte: nothing yet, one code point, two, or an error of so many bytes.
 pub enum Event {
@@ -20,7 +24,9 @@ pub enum Held {
     Score(i64),
 }
 
-pub fn is_lead(b: u8) -> bool {
+pub fn is_lead(b: u8) -> bool
+    ensures { λ r. ⌜ r ≡ isLead b ⌝ }
+{
     if b < 0x81 {
         return false;
     }
@@ -28,7 +34,9 @@ pub fn is_lead(b: u8) -> bool {
 }
 
 // Whether a decoder can hold it: a lead, or 0.
-pub fn is_lead_or_none(lead: u8) -> bool {
+pub fn is_lead_or_none(lead: u8) -> bool
+    ensures { λ r. ⌜ r ≡ isLeadOrNone lead ⌝ }
+{
     if lead == 0 {
         return true;
     }
@@ -36,7 +44,9 @@ pub fn is_lead_or_none(lead: u8) -> bool {
 }
 
 // The error of a lead with a byte that makes no pair with it: the byte is part of it unless it is ASCII.
-pub fn malformed(b: u8) -> Event {
+pub fn malformed(b: u8) -> Event
+    ensures { λ r. ⌜ r ≡ malformedOf b ⌝ }
+{
     if b < 0x80 {
         return Event::Error(1);
     }
@@ -44,7 +54,9 @@ pub fn malformed(b: u8) -> Event {
 }
 
 // A byte where no lead is pending.
-pub fn first(b: u8) -> Decoded {
+pub fn first(b: u8) -> Decoded
+    ensures { λ r. ⌜ r ≡ firstOf b ⌝ }
+{
     if b < 0x80 {
         let point = b as u32;
         return Decoded {
@@ -64,7 +76,9 @@ pub fn first(b: u8) -> Decoded {
     }
 }
 
-pub fn is_letter(u: u32) -> bool {
+pub fn is_letter(u: u32) -> bool
+    ensures { λ r. ⌜ r ≡ letter u ⌝ }
+{
     if u < 0x41 {
         return false;
     }
@@ -82,14 +96,18 @@ impl Held {
     pub const MOST: i64 = 2147483648;
 
     // What a release adds to the score.
-    pub fn released(self) -> i64 {
+    pub fn released(self) -> i64
+        ensures { λ r. ⌜ r ≡ releasedOf self ⌝ }
+{
         match self {
             Held::Nothing => 0,
             Held::Score(s) => s,
         }
     }
 
-    pub fn is_small(self) -> bool {
+    pub fn is_small(self) -> bool
+        ensures { λ r. ⌜ r ≡ smallHeldB self ⌝ }
+{
         let s = self.released();
         if s < 0 {
             return -2147483648 <= s;

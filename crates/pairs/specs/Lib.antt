@@ -1,0 +1,4 @@
+pub mod Pairs
+pub mod PairsLaws
+pub mod Ranges
+pub mod Sums
