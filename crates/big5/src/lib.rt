@@ -1,4 +1,15 @@
 // Big5: the Standard's decoder over a lent index, and the scoring machine over what it yields.
+ghost use mathlib.Core.Path.{_≡_};
+ghost use mathlib.Core.Bool.{true};
+ghost use Prim.Native.Nat.{_*_, _≤_, _<_};
+ghost use lib.IntN.{pos, natAbs};
+ghost use lib.ListN.{length, getD};
+ghost use Rattle.laws.specs.Run.{live, run};
+ghost use Rattle.pairs.specs.Pairs.{isLeadOrNone, SmallHeld};
+ghost use Rattle.weights.specs.Weights.{term, perByte, limit, weightCount};
+ghost use Rattle.big5.specs.Standard.{entries, isTrail, pointerOf, isMapped, entryOf, pairOf, decodeOf};
+ghost use Rattle.big5.specs.Scoring.{scaleOf, isHanzi, isDistinct, besideOf, holdsOf, hanziWeight, letterOf, hanziOf, otherOf, unitOf, pointOf, unmappedOf, extensionOf, isPair, isExtension, after as afterOf, strayOf, errorOf, onEvent, lent, freshOf, stepOf, scored};
+ghost use Rattle.big5.specs.Big5.{Sound, soundB, Small, outOf, ranAs, Bounded, readyB, Ready, ranOf, closedOf};
 use pairs::Decoded;
 use pairs::Event;
 use pairs::Held;
@@ -49,7 +60,9 @@ struct Scored {
 }
 
 // ---- the decoder
-fn is_trail(b: u8) -> bool {
+fn is_trail(b: u8) -> bool
+    ensures { λ r. ⌜ r ≡ isTrail b ⌝ }
+{
     if b < 0x40 {
         return false;
     }
@@ -62,7 +75,12 @@ fn is_trail(b: u8) -> bool {
     b < 0xFF
 }
 
-fn pointer(lead: u8, b: u8) -> usize {
+fn pointer(lead: u8, b: u8) -> usize
+    requires { ⌜ (0x81 ≤ lead) × (lead ≤ 0xFE) ⌝ }
+    requires { ⌜ isTrail b ≡ true ⌝ }
+    ensures { λ r. ⌜ r ≡ pointerOf lead b ⌝ }
+    ensures { λ r. ⌜ r < entries ⌝ }
+{
     let row = (lead - 0x81) as usize * 157;
     if b < 0x7F {
         return row + (b - 0x40) as usize;
@@ -70,7 +88,9 @@ fn pointer(lead: u8, b: u8) -> usize {
     row + (b - 0x62) as usize
 }
 
-fn is_mapped(entry: u32) -> bool {
+fn is_mapped(entry: u32) -> bool
+    ensures { λ r. ⌜ r ≡ isMapped entry ⌝ }
+{
     if entry < 0x80 {
         return false;
     }
@@ -90,7 +110,10 @@ fn is_mapped(entry: u32) -> bool {
 }
 
 // What stands at a pointer of the index.
-fn looked_up(at: usize, b: u8, index: &[u32]) -> Event {
+fn looked_up(at: usize, b: u8, index: &[u32]) -> Event
+    requires { ⌜ at < length (now index) ⌝ }
+    ensures { λ r. ⌜ r ≡ entryOf (now (index .entry)) at b ⌝ }
+{
     let entry = index[at];
     if is_mapped(entry) {
         return Event::Point(entry);
@@ -99,7 +122,11 @@ fn looked_up(at: usize, b: u8, index: &[u32]) -> Event {
 }
 
 // A lead and the byte after it.
-fn pair(lead: u8, b: u8, index: &[u32]) -> Event {
+fn pair(lead: u8, b: u8, index: &[u32]) -> Event
+    requires { ⌜ (0x81 ≤ lead) × (lead ≤ 0xFE) ⌝ }
+    requires { ⌜ length (now index) ≡ entries ⌝ }
+    ensures { λ r. ⌜ r ≡ pairOf (now (index .entry)) lead b ⌝ }
+{
     if is_trail(b) {
         let at = pointer(lead, b);
         return match at {
@@ -113,7 +140,11 @@ fn pair(lead: u8, b: u8, index: &[u32]) -> Event {
     pairs::malformed(b)
 }
 
-fn decode(lead: u8, b: u8, index: &[u32]) -> Decoded {
+fn decode(lead: u8, b: u8, index: &[u32]) -> Decoded
+    requires { ⌜ isLeadOrNone lead ≡ true ⌝ }
+    requires { ⌜ length (now index) ≡ entries ⌝ }
+    ensures { λ r. ⌜ r ≡ decodeOf (now (index .entry)) lead b ⌝ }
+{
     if lead == 0 {
         return pairs::first(b);
     }
@@ -122,7 +153,9 @@ fn decode(lead: u8, b: u8, index: &[u32]) -> Decoded {
 }
 
 // ---- what the tests of a unit say
-fn is_hanzi(u: u32) -> bool {
+fn is_hanzi(u: u32) -> bool
+    ensures { λ r. ⌜ r ≡ isHanzi u ⌝ }
+{
     if u < 0x3400 {
         return false;
     }
@@ -136,19 +169,29 @@ fn is_hanzi(u: u32) -> bool {
 }
 
 // Punctuation that is distinct from Korean or Japanese.
-fn is_distinct(u: u32) -> bool {
+fn is_distinct(u: u32) -> bool
+    ensures { λ r. ⌜ r ≡ isDistinct u ⌝ }
+{
     match u {
         0x3000 | 0x3001 | 0x3002 | 0xFF01 | 0xFF08 | 0xFF09 | 0xFF0C | 0xFF1B | 0xFF1F => true,
         _ => false,
     }
 }
 
-fn weight(weights: &[i32], k: usize) -> i64 {
+fn weight(weights: &[i32], k: usize) -> i64
+    requires { ⌜ k < length (now weights) ⌝ }
+    ensures { λ r. ⌜ r ≡ getD (now (weights .entry)) k (pos 0) ⌝ }
+    ensures { λ r. ⌜ natAbs r ≤ term ⌝ }
+{
     weights[k] as i64
 }
 
 impl Scale {
-    fn read(weights: &[i32]) -> Scale {
+    fn read(weights: &[i32]) -> Scale
+        requires { ⌜ length (now weights) ≡ weightCount ⌝ }
+        ensures { λ r. ⌜ r ≡ scaleOf (now (weights .entry)) ⌝ }
+        ensures { λ r. ⌜ Small r ⌝ }
+    {
         Scale {
             adjacency: weight(weights, weights::CJK_LATIN_ADJACENCY),
             punctuation: weight(weights, weights::CJ_PUNCTUATION),
@@ -161,7 +204,9 @@ impl Scale {
     }
 
     // What a Hanzi adds that stands after this kind.
-    fn beside(self, prev: LatinCj) -> i64 {
+    fn beside(self, prev: LatinCj) -> i64
+        ensures { λ r. ⌜ r ≡ besideOf self prev ⌝ }
+    {
         match prev {
             LatinCj::AsciiLetter => self.adjacency,
             LatinCj::Cj => 0,
@@ -169,7 +214,9 @@ impl Scale {
         }
     }
 
-    fn of_hanzi(self, prev_byte: u8) -> i64 {
+    fn of_hanzi(self, prev_byte: u8) -> i64
+        ensures { λ r. ⌜ r ≡ hanziWeight self «prev_byte» ⌝ }
+    {
         if prev_byte < 0xA4 {
             return self.hanzi;
         }
@@ -183,7 +230,9 @@ impl Scale {
 impl Big5 {
     pub const INDEX: usize = 19782;
 
-    pub fn fresh() -> Big5 {
+    pub fn fresh() -> Big5
+        ensures { λ r. ⌜ r ≡ freshOf ⌝ }
+    {
         Big5 {
             lead: 0,
             prev: LatinCj::Other,
@@ -193,7 +242,9 @@ impl Big5 {
     }
 
     // Whether the score of a Hanzi waits for what follows.
-    fn holds(self) -> bool {
+    fn holds(self) -> bool
+        ensures { λ r. ⌜ r ≡ holdsOf self ⌝ }
+    {
         let prev = self.prev;
         match prev {
             LatinCj::AsciiLetter => octets::problematic_lead(self.prev_byte),
@@ -203,7 +254,9 @@ impl Big5 {
     }
 
     // A letter discards what is held.
-    fn letter(self, w: Scale) -> Scored {
+    fn letter(self, w: Scale) -> Scored
+        ensures { λ r. ⌜ r ≡ letterOf w self ⌝ }
+    {
         let prev = self.prev;
         let gain = match prev {
             LatinCj::AsciiLetter => 0,
@@ -218,9 +271,15 @@ impl Big5 {
     }
 
     // A Hanzi releases what is held, and its own score may be held in turn.
-    fn hanzi(self, own: i64, w: Scale) -> Scored {
+    fn hanzi(self, own: i64, w: Scale) -> Scored
+        requires { ⌜ Small w ⌝ }
+        requires { ⌜ SmallHeld (self .held) ⌝ }
+        requires { ⌜ natAbs own ≤ term ⌝ }
+        ensures { λ r. ⌜ r ≡ hanziOf w self own ⌝ }
+    {
+        let prev = self.prev;
         let held = self.held;
-        let gain = held.released() + w.beside(self.prev);
+        let gain = held.released() + w.beside(prev);
         if self.holds() {
             return Scored {
                 prev: LatinCj::Cj,
@@ -236,7 +295,11 @@ impl Big5 {
     }
 
     // Anything else that is no ASCII: what is held is released, and its own score added.
-    fn other(self, own: i64) -> Scored {
+    fn other(self, own: i64) -> Scored
+        requires { ⌜ SmallHeld (self .held) ⌝ }
+        requires { ⌜ natAbs own ≤ term ⌝ }
+        ensures { λ r. ⌜ r ≡ otherOf self own ⌝ }
+    {
         let held = self.held;
         Scored {
             prev: LatinCj::Other,
@@ -246,7 +309,11 @@ impl Big5 {
     }
 
     // A code point that is one unit.
-    fn unit(self, u: u32, w: Scale) -> Scored {
+    fn unit(self, u: u32, w: Scale) -> Scored
+        requires { ⌜ Small w ⌝ }
+        requires { ⌜ SmallHeld (self .held) ⌝ }
+        ensures { λ r. ⌜ r ≡ unitOf w self u ⌝ }
+    {
         if pairs::is_letter(u) {
             return self.letter(w);
         }
@@ -267,7 +334,11 @@ impl Big5 {
     }
 
     // A code point that is a pair of units is a Hanzi.
-    fn point(self, point: u32, w: Scale) -> Scored {
+    fn point(self, point: u32, w: Scale) -> Scored
+        requires { ⌜ Small w ⌝ }
+        requires { ⌜ SmallHeld (self .held) ⌝ }
+        ensures { λ r. ⌜ r ≡ pointOf w self point ⌝ }
+    {
         if point < 0x10000 {
             return self.unit(point, w);
         }
@@ -275,18 +346,25 @@ impl Big5 {
     }
 
     // A pair in Big5's range that is not mapped counts as a Hanzi of private use.
-    fn unmapped(self, w: Scale) -> Scored {
+    fn unmapped(self, w: Scale) -> Scored
+        requires { ⌜ Small w ⌝ }
+        requires { ⌜ SmallHeld (self .held) ⌝ }
+        ensures { λ r. ⌜ r ≡ unmappedOf w self ⌝ }
+    {
+        let prev = self.prev;
         let held = self.held;
         Scored {
             prev: LatinCj::Cj,
             held: Held::Nothing,
-            gain: held.released() + w.pua + w.beside(self.prev),
+            gain: held.released() + w.pua + w.beside(prev),
         }
     }
 }
 
 // Whether the byte before and this one are a pair in Big5's range.
-fn is_pair(prev_byte: u8, b: u8) -> bool {
+fn is_pair(prev_byte: u8, b: u8) -> bool
+    ensures { λ r. ⌜ r ≡ isPair «prev_byte» b ⌝ }
+{
     if pairs::is_lead(prev_byte) {
         return is_trail(b);
     }
@@ -294,7 +372,9 @@ fn is_pair(prev_byte: u8, b: u8) -> bool {
 }
 
 // Whether the byte before is a single-byte extension where it stands before ASCII or FF.
-fn is_extension(prev_byte: u8) -> bool {
+fn is_extension(prev_byte: u8) -> bool
+    ensures { λ r. ⌜ r ≡ isExtension «prev_byte» ⌝ }
+{
     match prev_byte {
         0xA0 | 0xFD | 0xFE => true,
         _ => false,
@@ -302,7 +382,10 @@ fn is_extension(prev_byte: u8) -> bool {
 }
 
 // An extension byte with the byte after it: ASCII, or the extension FF, which counts too.
-fn extension(b: u8, w: Scale) -> Scored {
+fn extension(b: u8, w: Scale) -> Scored
+    requires { ⌜ Small w ⌝ }
+    ensures { λ r. ⌜ r ≡ extensionOf w b ⌝ }
+{
     if b == 0xFF {
         return Scored {
             prev: LatinCj::Other,
@@ -325,7 +408,9 @@ fn extension(b: u8, w: Scale) -> Scored {
 }
 
 // The record after a byte.
-fn after(lead: u8, b: u8, s: Scored) -> Stepped {
+fn after(lead: u8, b: u8, s: Scored) -> Stepped
+    ensures { λ r. ⌜ outOf r ≡ afterOf lead b s ⌝ }
+{
     let prev = s.prev;
     let held = s.held;
     Stepped::Live(
@@ -341,7 +426,10 @@ fn after(lead: u8, b: u8, s: Scored) -> Stepped {
 
 impl Big5 {
     // An error that is no pair in range: an extension, or the machine drops out.
-    fn stray(self, lead: u8, b: u8, length: u8, w: Scale) -> Stepped {
+    fn stray(self, lead: u8, b: u8, size: u8, w: Scale) -> Stepped
+        requires { ⌜ Small w ⌝ }
+        ensures { λ r. ⌜ outOf r ≡ strayOf w self lead b size ⌝ }
+    {
         if is_extension(self.prev_byte) {
             if b < 0x80 {
                 return after(lead, b, extension(b, w));
@@ -350,7 +438,7 @@ impl Big5 {
                 return after(lead, b, extension(b, w));
             }
         }
-        if length == 1 {
+        if size == 1 {
             if b == 0xFF {
                 return after(
                     lead,
@@ -366,26 +454,37 @@ impl Big5 {
         Stepped::Dropped
     }
 
-    fn error(self, lead: u8, b: u8, length: u8, w: Scale) -> Stepped {
+    fn error(self, lead: u8, b: u8, size: u8, w: Scale) -> Stepped
+        requires { ⌜ Small w ⌝ }
+        requires { ⌜ SmallHeld (self .held) ⌝ }
+        ensures { λ r. ⌜ outOf r ≡ errorOf w self lead b size ⌝ }
+    {
         if is_pair(self.prev_byte, b) {
             return after(lead, b, self.unmapped(w));
         }
-        self.stray(lead, b, length, w)
+        self.stray(lead, b, size, w)
     }
 
-    fn step(self, b: u8, index: &[u32], w: Scale) -> Stepped {
+    fn step(self, b: u8, index: &[u32], w: Scale) -> Stepped
+        requires { ⌜ Small w ⌝ }
+        requires { ⌜ Sound limit self ⌝ }
+        requires { ⌜ length (now index) ≡ entries ⌝ }
+        ensures { λ r. ⌜ outOf r ≡ stepOf (lent (now (index .entry)) w) self b ⌝ }
+    {
         let d = decode(self.lead, b, index);
         let event = d.event;
         match event {
             Event::Pending => self.pending(d.lead, b),
             Event::Point(point) => after(d.lead, b, self.point(point, w)),
             Event::Two(_, _) => after(d.lead, b, self.other(w.other)),
-            Event::Error(length) => self.error(d.lead, b, length, w),
+            Event::Error(size) => self.error(d.lead, b, size, w),
         }
     }
 
     // A lead changes nothing else.
-    fn pending(self, lead: u8, b: u8) -> Stepped {
+    fn pending(self, lead: u8, b: u8) -> Stepped
+        ensures { λ r. ⌜ outOf r ≡ afterOf lead b (scored (self .prev) (self .held) (pos 0)) ⌝ }
+    {
         let prev = self.prev;
         let held = self.held;
         Stepped::Live(
@@ -399,7 +498,14 @@ impl Big5 {
         )
     }
 
-    fn go(self, part: &[u8], index: &[u32], w: Scale) -> Ran {
+    fn go(self, part: &[u8], index: &[u32], w: Scale) -> Ran
+        requires { ⌜ Small w ⌝ }
+        requires { ⌜ Sound limit self ⌝ }
+        requires { ⌜ length (now part) ≤ limit ⌝ }
+        requires { ⌜ length (now index) ≡ entries ⌝ }
+        ensures { λ r. ⌜ r ≡ ranAs (run (stepOf (lent (now (index .entry)) w)) (live self (pos 0)) (now (part .entry))) ⌝ }
+        ensures { λ r. ⌜ Bounded (perByte * length (now (part .entry))) r ⌝ }
+    {
         let mut m = self;
         let mut s: i64 = 0;
         let mut i = 0;
@@ -419,7 +525,9 @@ impl Big5 {
     }
 
     // Whether the record is one that `bytes` bytes can have led to.
-    pub fn is_sound_for(self, bytes: u64) -> bool {
+    pub fn is_sound_for(self, bytes: u64) -> bool
+        ensures { λ r. ⌜ r ≡ soundB bytes self ⌝ }
+    {
         if pairs::is_lead_or_none(self.lead) {
             let held = self.held;
             return held.is_small();
@@ -427,7 +535,10 @@ impl Big5 {
         false
     }
 
-    pub fn run(self, part: &[u8], index: &[u32], weights: &[i32]) -> Ran {
+    pub fn run(self, part: &[u8], index: &[u32], weights: &[i32]) -> Ran
+        ensures { λ r. ⌜ r ≡ ranOf (now (index .entry)) (now (weights .entry)) self (now (part .entry)) ⌝ }
+        ensures { λ r. ⌜ Bounded (perByte * length (now (part .entry))) r ⌝ }
+    {
         if is_ready(self, part, index, weights) {
             return self.go(part, index, Scale::read(weights));
         }
@@ -435,7 +546,9 @@ impl Big5 {
     }
 
     // The end of the stream: none where a lead is pending. A held score counts nothing, and stays.
-    pub fn close(self) -> Ran {
+    pub fn close(self) -> Ran
+        ensures { λ r. ⌜ r ≡ closedOf self ⌝ }
+    {
         if self.is_sound_for(268435456) {
             if self.lead == 0 {
                 return Ran::Live(self, 0);
@@ -447,7 +560,9 @@ impl Big5 {
 }
 
 // Whether all is in order for a run.
-fn is_ready(m: Big5, part: &[u8], index: &[u32], weights: &[i32]) -> bool {
+fn is_ready(m: Big5, part: &[u8], index: &[u32], weights: &[i32]) -> bool
+    ensures { λ r. ⌜ r ≡ readyB (now (index .entry)) (now (weights .entry)) m (now (part .entry)) ⌝ }
+{
     if m.is_sound_for(268435456) {
         if part.len() <= 268435456 {
             if index.len() == 19782 {

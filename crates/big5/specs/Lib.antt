@@ -1,0 +1,4 @@
+pub mod Standard
+pub mod Scoring
+pub mod Big5
+pub mod Ways
