@@ -36,7 +36,10 @@ impl Digest {
 }
 
 fn u32_at(bytes: &[u8], at: usize) -> u32 {
-    bytes[at] as u32 + bytes[at + 1] as u32 * 256 + bytes[at + 2] as u32 * 65536 + bytes[at + 3] as u32 * 16777216
+    bytes[at] as u32
+        + bytes[at + 1] as u32 * 256
+        + bytes[at + 2] as u32 * 65536
+        + bytes[at + 3] as u32 * 16777216
 }
 
 fn u64_at(bytes: &[u8], at: usize) -> u64 {
@@ -245,7 +248,15 @@ fn record_of_euckr(r: euckr::Ran, score: i64) -> [u8; 40] {
     }
 }
 
-fn turn(place: u8, record: &[u8], byte: &[u8], big5_index: &[u32], euckr_index: &[u32], extras: &[i16], weights: &[i32]) -> [u8; 40] {
+fn turn(
+    place: u8,
+    record: &[u8],
+    byte: &[u8],
+    big5_index: &[u32],
+    euckr_index: &[u32],
+    extras: &[i16],
+    weights: &[i32],
+) -> [u8; 40] {
     if record[0] == 0 {
         return [0u8; 40];
     }
@@ -253,7 +264,10 @@ fn turn(place: u8, record: &[u8], byte: &[u8], big5_index: &[u32], euckr_index: 
     if place == 3 {
         return record_of_big5(big5_at(record).run(byte, big5_index, weights), score);
     }
-    record_of_euckr(euckr_at(record).run(byte, euckr_index, extras, weights), score)
+    record_of_euckr(
+        euckr_at(record).run(byte, euckr_index, extras, weights),
+        score,
+    )
 }
 
 fn closed(place: u8, record: &[u8]) -> [u8; 40] {
@@ -264,7 +278,10 @@ fn closed(place: u8, record: &[u8]) -> [u8; 40] {
     if place == 3 {
         return record_of_big5(big5_at(record).close(), score);
     }
-    with_word(record_of_euckr(euckr_at(record).close(), score), u64_at(record, 16))
+    with_word(
+        record_of_euckr(euckr_at(record).close(), score),
+        u64_at(record, 16),
+    )
 }
 
 fn main() {
@@ -278,7 +295,11 @@ fn main() {
     fill32(&mut euckr_index, &lent, 211736);
     fill_extras(&mut extras, &lent, 342840);
     fill_weights(&mut weights, &lent, 365184);
-    let mut d = Digest { h1: 1, h2: 1, length: 0 };
+    let mut d = Digest {
+        h1: 1,
+        h2: 1,
+        length: 0,
+    };
     let mut header = [0u8; 47];
     let mut bytes = [0u8; 65536];
     loop {
@@ -300,7 +321,15 @@ fn main() {
         let start = record;
         let mut i = 0;
         while i < length {
-            record = turn(place, &start, &bytes[..i + 1], &big5_index, &euckr_index, &extras, &weights);
+            record = turn(
+                place,
+                &start,
+                &bytes[..i + 1],
+                &big5_index,
+                &euckr_index,
+                &extras,
+                &weights,
+            );
             d = d.with_all(&record);
             i += 1;
         }

@@ -39,3 +39,24 @@ size-neg (negsuc a) n e = sym (leb·suc-suc a n)
 pub size-pos : (z : ℤ) (n : ℕ) → ltZ z (pos 0) ≡ false → leZ z (pos n) ≡ leb (natAbs z) n
 size-pos (pos a) n e = refl
 size-pos (negsuc a) n e = cc
+
+-- ---- three terms, and four
+module _ (a b c : ℤ) (n m k : ℕ) (p : natAbs a ≤ n) (q : natAbs b ≤ m) (r : natAbs c ≤ k) (room : n + m + k < 2 ^ 63) where
+  pub sum3-small : natAbs (a +ℤ b +ℤ c) ≤ n + m + k
+  sum3-small = omega (arith, abs-add (a +ℤ b) c, abs-add a b)
+
+  pub sum3-fits : SFits w64 (kept (kept a +ℤ kept b) +ℤ kept c)
+  sum3-fits = rw (sum-read a b n m p q (omega arith), thru64 c k r (omega arith)) (fits64 (a +ℤ b +ℤ c) (omega (arith, sum3-small)))
+
+  pub sum3-read : kept (kept (kept a +ℤ kept b) +ℤ kept c) ≡ a +ℤ b +ℤ c
+  sum3-read = rw (sum-read a b n m p q (omega arith), thru64 c k r (omega arith)) (thru64 (a +ℤ b +ℤ c) (n + m + k) sum3-small room)
+
+  module _ (d : ℤ) (l : ℕ) (s : natAbs d ≤ l) (room4 : n + m + k + l < 2 ^ 63) where
+    pub sum4-small : natAbs (a +ℤ b +ℤ c +ℤ d) ≤ n + m + k + l
+    sum4-small = omega (arith, abs-add (a +ℤ b +ℤ c) d, sum3-small)
+
+    pub sum4-fits : SFits w64 (kept (kept (kept a +ℤ kept b) +ℤ kept c) +ℤ kept d)
+    sum4-fits = rw (sum3-read, thru64 d l s (omega arith)) (fits64 (a +ℤ b +ℤ c +ℤ d) (omega (arith, sum4-small)))
+
+    pub sum4-read : kept (kept (kept (kept a +ℤ kept b) +ℤ kept c) +ℤ kept d) ≡ a +ℤ b +ℤ c +ℤ d
+    sum4-read = rw (sum3-read, thru64 d l s (omega arith)) (thru64 (a +ℤ b +ℤ c +ℤ d) (n + m + k + l) sum4-small room4)

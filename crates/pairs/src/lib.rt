@@ -98,7 +98,7 @@ impl Held {
     // What a release adds to the score.
     pub fn released(self) -> i64
         ensures { λ r. ⌜ r ≡ releasedOf self ⌝ }
-{
+    {
         match self {
             Held::Nothing => 0,
             Held::Score(s) => s,
@@ -107,7 +107,7 @@ impl Held {
 
     pub fn is_small(self) -> bool
         ensures { λ r. ⌜ r ≡ smallHeldB self ⌝ }
-{
+    {
         let s = self.released();
         if s < 0 {
             return -2147483648 <= s;

@@ -16,13 +16,13 @@ is-lead-requires c κs = search needs
 
 returns-2 : tie.Need-returns-2
 unfolding firstOf
-returns-2 c = 
+returns-2 c =
     let e : isLead (c .before .before .before .args .b) ≡ true = sym (c .before .is-lead .ensures) ∙ c .if2 .taken in
     rw (le-ltb _ _ (c .before .before .if1 .left), e)
 
 returns-3 : tie.Need-returns-3
 unfolding firstOf
-returns-3 c = 
+returns-3 c =
     let e : isLead (c .before .before .before .args .b) ≡ false = sym (c .before .is-lead .ensures) ∙ c .if2 .left in
     rw (le-ltb _ _ (c .before .before .if1 .left), e)
 

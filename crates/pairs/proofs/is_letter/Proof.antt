@@ -14,7 +14,7 @@ returns-3 : tie.Need-returns-3
 returns-3 c = rw (below 0x61 0x7A (c .before .before .before .args .u) (omega arith), above 0x41 0x5A (c .before .before .before .args .u) (omega arith))
 
 returns-4 : tie.Need-returns-4
-returns-4 c = 
+returns-4 c =
     let u = c .before .before .before .args .u in
     up-to-or 0x61 0x7A u _ (omega arith) (above 0x41 0x5A u (omega arith))
 
