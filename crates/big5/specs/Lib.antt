@@ -4,3 +4,6 @@ pub mod Big5
 pub mod Ways
 pub mod StandardLaws
 pub mod Big5Laws
+pub mod HeldLaws
+pub mod AsciiLaws
+pub mod Edges
