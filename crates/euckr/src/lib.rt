@@ -1,4 +1,17 @@
 // EUC-KR: the Standard's decoder over a lent index, and the scoring machine over what it yields.
+ghost use mathlib.Core.Path.{_≡_};
+ghost use mathlib.Core.Bool.{true};
+ghost use Prim.Native.Nat.{_*_, _≤_, _<_};
+ghost use lib.IntN.{pos, natAbs};
+ghost use lib.ListN.{length, getD};
+ghost use Rattle.laws.specs.Run.{live, run};
+ghost use Rattle.pairs.specs.Pairs.{isLeadOrNone, SmallHeld};
+ghost use Rattle.pairs.specs.declared.Held.the-variants.{Nothing};
+ghost use Rattle.weights.specs.Weights.{term, perByte, limit, weightCount};
+ghost use Rattle.euckr.specs.Standard.{entries, isTrail, pointerOf, isMapped, pairOf, decodeOf};
+ghost use Rattle.euckr.specs.Scoring.{scaleOf, extraCount, extraOf, isEuc, isHangul, isHanja, hangulAfter, hanjaAfter, letterAfter, longOf, holdsOf, scored, letterOf, aroundOf, innerOf, outerOf, hangulOf, hanjaOf, otherOf, unitOf, isUserPair, isMacLead, isMacSymbol, isExtension, isLone, extensionOf, after as afterOf, pendingOf, strayOf, errorOf, lent, freshOf, stepOf};
+ghost use Rattle.euckr.specs.EucKr.{Sound, soundB, Small, room, outOf, ranAs, Slight, Bounded, readyB, ranOf, closedOf};
+ghost use Rattle.euckr.specs.declared.LatinKorean.the-variants.{Other};
 use pairs::Decoded;
 use pairs::Event;
 use pairs::Held;
@@ -33,18 +46,19 @@ enum Stepped {
     Dropped,
 }
 
-// The weights that this machine uses.
+// The weights that this machine uses: `outer` of a Hangul outside the EUC range, `mixed` of a Hanja after a Hangul, `long` of
+// a long word.
 struct Scale {
     adjacency: i64,
     other: i64,
-    euc_hangul: i64,
-    non_euc_hangul: i64,
+    hangul: i64,
+    outer: i64,
     hanja: i64,
-    after_hangul: i64,
+    mixed: i64,
     pua: i64,
     mac: i64,
     extension: i64,
-    long_word: i64,
+    long: i64,
 }
 
 // What a byte makes of a record, but for its lead, its previous byte and the range of that.
@@ -56,18 +70,27 @@ struct Scored {
 }
 
 // ---- the decoder
-fn is_trail(b: u8) -> bool {
+fn is_trail(b: u8) -> bool
+    ensures { λ r. ⌜ r ≡ isTrail b ⌝ }
+{
     if b < 0x41 {
         return false;
     }
     b < 0xFF
 }
 
-fn pointer(lead: u8, b: u8) -> usize {
+fn pointer(lead: u8, b: u8) -> usize
+    requires { ⌜ (0x81 ≤ lead) × (lead ≤ 0xFE) ⌝ }
+    requires { ⌜ isTrail b ≡ true ⌝ }
+    ensures { λ r. ⌜ r ≡ pointerOf lead b ⌝ }
+    ensures { λ r. ⌜ r < entries ⌝ }
+{
     (lead - 0x81) as usize * 190 + (b - 0x41) as usize
 }
 
-fn is_mapped(entry: u32) -> bool {
+fn is_mapped(entry: u32) -> bool
+    ensures { λ r. ⌜ r ≡ isMapped entry ⌝ }
+{
     if entry < 0x80 {
         return false;
     }
@@ -81,7 +104,11 @@ fn is_mapped(entry: u32) -> bool {
 }
 
 // A lead and the byte after it.
-fn pair(lead: u8, b: u8, index: &[u32]) -> Event {
+fn pair(lead: u8, b: u8, index: &[u32]) -> Event
+    requires { ⌜ (0x81 ≤ lead) × (lead ≤ 0xFE) ⌝ }
+    requires { ⌜ length (now index) ≡ entries ⌝ }
+    ensures { λ r. ⌜ r ≡ pairOf (now (index .entry)) lead b ⌝ }
+{
     if is_trail(b) {
         let entry = index[pointer(lead, b)];
         if is_mapped(entry) {
@@ -91,7 +118,11 @@ fn pair(lead: u8, b: u8, index: &[u32]) -> Event {
     pairs::malformed(b)
 }
 
-fn decode(lead: u8, b: u8, index: &[u32]) -> Decoded {
+fn decode(lead: u8, b: u8, index: &[u32]) -> Decoded
+    requires { ⌜ isLeadOrNone lead ≡ true ⌝ }
+    requires { ⌜ length (now index) ≡ entries ⌝ }
+    ensures { λ r. ⌜ r ≡ decodeOf (now (index .entry)) lead b ⌝ }
+{
     if lead == 0 {
         return pairs::first(b);
     }
@@ -100,21 +131,27 @@ fn decode(lead: u8, b: u8, index: &[u32]) -> Decoded {
 }
 
 // ---- what the tests of a byte or a unit say
-fn is_euc(b: u8) -> bool {
+fn is_euc(b: u8) -> bool
+    ensures { λ r. ⌜ r ≡ isEuc b ⌝ }
+{
     if b < 0xA1 {
         return false;
     }
     b < 0xFF
 }
 
-fn is_hangul(u: u32) -> bool {
+fn is_hangul(u: u32) -> bool
+    ensures { λ r. ⌜ r ≡ isHangul u ⌝ }
+{
     if u < 0xAC00 {
         return false;
     }
     u < 0xD7A4
 }
 
-fn is_hanja(u: u32) -> bool {
+fn is_hanja(u: u32) -> bool
+    ensures { λ r. ⌜ r ≡ isHanja u ⌝ }
+{
     if u < 0x4E00 {
         return false;
     }
@@ -127,33 +164,48 @@ fn is_hanja(u: u32) -> bool {
     u < 0xFA0C
 }
 
-fn weight(weights: &[i32], k: usize) -> i64 {
+fn weight(weights: &[i32], k: usize) -> i64
+    requires { ⌜ k < length (now weights) ⌝ }
+    ensures { λ r. ⌜ r ≡ getD (now (weights .entry)) k (pos 0) ⌝ }
+    ensures { λ r. ⌜ natAbs r ≤ term ⌝ }
+{
     weights[k] as i64
 }
 
 // The extra of a Hangul.
-fn extra(extras: &[i16], u: u32) -> i64 {
+fn extra(extras: &[i16], u: u32) -> i64
+    requires { ⌜ length (now extras) ≡ extraCount ⌝ }
+    requires { ⌜ isHangul u ≡ true ⌝ }
+    ensures { λ r. ⌜ r ≡ extraOf (now (extras .entry)) u ⌝ }
+    ensures { λ r. ⌜ natAbs r ≤ term ⌝ }
+{
     extras[(u - 0xAC00) as usize] as i64
 }
 
 impl Scale {
-    fn read(weights: &[i32]) -> Scale {
+    fn read(weights: &[i32]) -> Scale
+        requires { ⌜ length (now weights) ≡ weightCount ⌝ }
+        ensures { λ r. ⌜ r ≡ scaleOf (now (weights .entry)) ⌝ }
+        ensures { λ r. ⌜ Small r ⌝ }
+    {
         Scale {
             adjacency: weight(weights, weights::CJK_LATIN_ADJACENCY),
             other: weight(weights, weights::CJK_OTHER),
-            euc_hangul: weight(weights, weights::EUC_HANGUL),
-            non_euc_hangul: weight(weights, weights::NON_EUC_HANGUL),
+            hangul: weight(weights, weights::EUC_HANGUL),
+            outer: weight(weights, weights::NON_EUC_HANGUL),
             hanja: weight(weights, weights::HANJA),
-            after_hangul: weight(weights, weights::HANJA_AFTER_HANGUL),
+            mixed: weight(weights, weights::HANJA_AFTER_HANGUL),
             pua: weight(weights, weights::EUC_KR_PUA),
             mac: weight(weights, weights::MAC_KOREAN),
             extension: weight(weights, weights::EUC_KR_EXTENSION),
-            long_word: weight(weights, weights::LONG_WORD),
+            long: weight(weights, weights::LONG_WORD),
         }
     }
 
     // What a Hangul adds that stands after this kind.
-    fn hangul_after(self, prev: LatinKorean) -> i64 {
+    fn hangul_after(self, prev: LatinKorean) -> i64
+        ensures { λ r. ⌜ r ≡ hangulAfter self prev ⌝ }
+    {
         match prev {
             LatinKorean::AsciiLetter => self.adjacency,
             LatinKorean::Hangul => 0,
@@ -163,17 +215,21 @@ impl Scale {
     }
 
     // What a Hanja adds that stands after this kind.
-    fn hanja_after(self, prev: LatinKorean) -> i64 {
+    fn hanja_after(self, prev: LatinKorean) -> i64
+        ensures { λ r. ⌜ r ≡ hanjaAfter self prev ⌝ }
+    {
         match prev {
             LatinKorean::AsciiLetter => self.adjacency,
-            LatinKorean::Hangul => self.after_hangul,
+            LatinKorean::Hangul => self.mixed,
             LatinKorean::Hanja => 0,
             LatinKorean::Other => 0,
         }
     }
 
     // What a letter adds that stands after this kind.
-    fn letter_after(self, prev: LatinKorean) -> i64 {
+    fn letter_after(self, prev: LatinKorean) -> i64
+        ensures { λ r. ⌜ r ≡ letterAfter self prev ⌝ }
+    {
         match prev {
             LatinKorean::AsciiLetter => 0,
             LatinKorean::Hangul => self.adjacency,
@@ -183,9 +239,11 @@ impl Scale {
     }
 
     // What a word adds that has become this long.
-    fn of_word(self, word: u64) -> i64 {
+    fn of_word(self, word: u64) -> i64
+        ensures { λ r. ⌜ r ≡ longOf self word ⌝ }
+    {
         if 5 < word {
-            return self.long_word;
+            return self.long;
         }
         0
     }
@@ -196,7 +254,9 @@ impl EucKr {
 
     pub const EXTRAS: usize = 11172;
 
-    pub fn fresh() -> EucKr {
+    pub fn fresh() -> EucKr
+        ensures { λ r. ⌜ r ≡ freshOf ⌝ }
+    {
         EucKr {
             lead: 0,
             prev_byte: 0,
@@ -208,7 +268,9 @@ impl EucKr {
     }
 
     // Whether the score of a Hangul outside the EUC range waits for what follows.
-    fn holds(self) -> bool {
+    fn holds(self) -> bool
+        ensures { λ r. ⌜ r ≡ holdsOf self ⌝ }
+    {
         let prev = self.prev;
         match prev {
             LatinKorean::AsciiLetter => octets::problematic_lead(self.prev_byte),
@@ -219,39 +281,62 @@ impl EucKr {
     }
 
     // A letter discards what is held.
-    fn letter(self, w: Scale) -> Scored {
+    fn letter(self, w: Scale) -> Scored
+        ensures { λ r. ⌜ r ≡ letterOf w self ⌝ }
+    {
+        let prev = self.prev;
+        let gain = w.letter_after(prev);
         Scored {
             prev: LatinKorean::AsciiLetter,
             word: 0,
             held: Held::Nothing,
-            gain: w.letter_after(self.prev),
+            gain,
         }
     }
 
     // What a Hangul adds besides its own score: what is held, its neighbour, its word.
-    fn around_hangul(self, w: Scale) -> i64 {
+    fn around_hangul(self, w: Scale) -> i64
+        requires { ⌜ Small w ⌝ }
+        requires { ⌜ SmallHeld (self .held) ⌝ }
+        requires { ⌜ self .«current_word_len» ≤ room ⌝ }
+        ensures { λ r. ⌜ r ≡ aroundOf w self ⌝ }
+    {
+        let prev = self.prev;
         let held = self.held;
-        held.released() + w.hangul_after(self.prev) + w.of_word(self.current_word_len + 1)
+        held.released() + w.hangul_after(prev) + w.of_word(self.current_word_len + 1)
     }
 
     // A Hangul of two bytes in the EUC range.
-    fn euc_hangul(self, u: u32, extras: &[i16], w: Scale) -> Scored {
+    fn euc_hangul(self, u: u32, extras: &[i16], w: Scale) -> Scored
+        requires { ⌜ Small w ⌝ }
+        requires { ⌜ SmallHeld (self .held) ⌝ }
+        requires { ⌜ self .«current_word_len» ≤ room ⌝ }
+        requires { ⌜ length (now extras) ≡ extraCount ⌝ }
+        requires { ⌜ isHangul u ≡ true ⌝ }
+        ensures { λ r. ⌜ r ≡ innerOf w self (now (extras .entry)) u ⌝ }
+        ensures { λ r. ⌜ natAbs (r .gain) ≤ perByte ⌝ }
+    {
         Scored {
             prev: LatinKorean::Hangul,
             word: self.current_word_len + 1,
             held: Held::Nothing,
-            gain: self.around_hangul(w) + w.euc_hangul + extra(extras, u),
+            gain: self.around_hangul(w) + w.hangul + extra(extras, u),
         }
     }
 
     // Any other Hangul: its score may be held.
-    fn non_euc_hangul(self, w: Scale) -> Scored {
+    fn outer_hangul(self, w: Scale) -> Scored
+        requires { ⌜ Small w ⌝ }
+        requires { ⌜ SmallHeld (self .held) ⌝ }
+        requires { ⌜ self .«current_word_len» ≤ room ⌝ }
+        ensures { λ r. ⌜ r ≡ outerOf w self ⌝ }
+    {
         let gain = self.around_hangul(w);
         if self.holds() {
             return Scored {
                 prev: LatinKorean::Hangul,
                 word: self.current_word_len + 1,
-                held: Held::Score(w.non_euc_hangul),
+                held: Held::Score(w.outer),
                 gain,
             };
         }
@@ -259,33 +344,52 @@ impl EucKr {
             prev: LatinKorean::Hangul,
             word: self.current_word_len + 1,
             held: Held::Nothing,
-            gain: gain + w.non_euc_hangul,
+            gain: gain + w.outer,
         }
     }
 
-    fn hangul(self, u: u32, b: u8, extras: &[i16], w: Scale) -> Scored {
+    fn hangul(self, u: u32, b: u8, extras: &[i16], w: Scale) -> Scored
+        requires { ⌜ Small w ⌝ }
+        requires { ⌜ SmallHeld (self .held) ⌝ }
+        requires { ⌜ self .«current_word_len» ≤ room ⌝ }
+        requires { ⌜ length (now extras) ≡ extraCount ⌝ }
+        requires { ⌜ isHangul u ≡ true ⌝ }
+        ensures { λ r. ⌜ r ≡ hangulOf w self (now (extras .entry)) u b ⌝ }
+        ensures { λ r. ⌜ natAbs (r .gain) ≤ perByte ⌝ }
+    {
         if self.prev_was_euc_range {
             if is_euc(b) {
                 return self.euc_hangul(u, extras, w);
             }
         }
-        self.non_euc_hangul(w)
+        self.outer_hangul(w)
     }
 
     // A Hanja, or a pair that counts as one.
-    fn hanja(self, own: i64, w: Scale) -> Scored {
+    fn hanja(self, own: i64, w: Scale) -> Scored
+        requires { ⌜ Small w ⌝ }
+        requires { ⌜ SmallHeld (self .held) ⌝ }
+        requires { ⌜ self .«current_word_len» ≤ room ⌝ }
+        requires { ⌜ natAbs own ≤ term ⌝ }
+        ensures { λ r. ⌜ r ≡ hanjaOf w self own ⌝ }
+    {
+        let prev = self.prev;
         let held = self.held;
         let word = self.current_word_len + 1;
         Scored {
             prev: LatinKorean::Hanja,
             word,
             held: Held::Nothing,
-            gain: held.released() + own + w.hanja_after(self.prev) + w.of_word(word),
+            gain: held.released() + own + w.hanja_after(prev) + w.of_word(word),
         }
     }
 
     // Anything else that is no ASCII: what is held is released, and its own score added.
-    fn other(self, own: i64) -> Scored {
+    fn other(self, own: i64) -> Scored
+        requires { ⌜ SmallHeld (self .held) ⌝ }
+        requires { ⌜ natAbs own ≤ term ⌝ }
+        ensures { λ r. ⌜ r ≡ otherOf self own ⌝ }
+    {
         let held = self.held;
         Scored {
             prev: LatinKorean::Other,
@@ -295,7 +399,14 @@ impl EucKr {
         }
     }
 
-    fn unit(self, u: u32, b: u8, extras: &[i16], w: Scale) -> Scored {
+    fn unit(self, u: u32, b: u8, extras: &[i16], w: Scale) -> Scored
+        requires { ⌜ Small w ⌝ }
+        requires { ⌜ SmallHeld (self .held) ⌝ }
+        requires { ⌜ self .«current_word_len» ≤ room ⌝ }
+        requires { ⌜ length (now extras) ≡ extraCount ⌝ }
+        ensures { λ r. ⌜ r ≡ unitOf w (now (extras .entry)) self u b ⌝ }
+        ensures { λ r. ⌜ natAbs (r .gain) ≤ perByte ⌝ }
+    {
         if pairs::is_letter(u) {
             return self.letter(w);
         }
@@ -313,7 +424,9 @@ impl EucKr {
 }
 
 // What is held is discarded, and the kind is Other.
-fn plain(gain: i64) -> Scored {
+fn plain(gain: i64) -> Scored
+    ensures { λ r. ⌜ r ≡ scored Other 0 Nothing gain ⌝ }
+{
     Scored {
         prev: LatinKorean::Other,
         word: 0,
@@ -323,7 +436,9 @@ fn plain(gain: i64) -> Scored {
 }
 
 // Whether the byte before and this one are a pair that code page 949 leaves to its users.
-fn is_user_pair(prev_byte: u8, b: u8) -> bool {
+fn is_user_pair(prev_byte: u8, b: u8) -> bool
+    ensures { λ r. ⌜ r ≡ isUserPair «prev_byte» b ⌝ }
+{
     if prev_byte == 0xC9 {
         return is_euc(b);
     }
@@ -333,7 +448,9 @@ fn is_user_pair(prev_byte: u8, b: u8) -> bool {
     false
 }
 
-fn is_mac_lead(b: u8) -> bool {
+fn is_mac_lead(b: u8) -> bool
+    ensures { λ r. ⌜ r ≡ isMacLead b ⌝ }
+{
     match b {
         0xA1 | 0xA3..=0xA8 | 0xAA..=0xAD => true,
         _ => false,
@@ -341,7 +458,9 @@ fn is_mac_lead(b: u8) -> bool {
 }
 
 // Whether they are a symbol of MacKorean outside code page 949.
-fn is_mac_symbol(prev_byte: u8, b: u8) -> bool {
+fn is_mac_symbol(prev_byte: u8, b: u8) -> bool
+    ensures { λ r. ⌜ r ≡ isMacSymbol «prev_byte» b ⌝ }
+{
     if b < 0x7B {
         return false;
     }
@@ -352,7 +471,9 @@ fn is_mac_symbol(prev_byte: u8, b: u8) -> bool {
 }
 
 // Whether the byte before is a single-byte extension where it stands before ASCII, 80 or FF.
-fn is_extension(prev_byte: u8) -> bool {
+fn is_extension(prev_byte: u8) -> bool
+    ensures { λ r. ⌜ r ≡ isExtension «prev_byte» ⌝ }
+{
     if prev_byte < 0x81 {
         return false;
     }
@@ -360,7 +481,9 @@ fn is_extension(prev_byte: u8) -> bool {
 }
 
 // The extensions that are no leads.
-fn is_lone(b: u8) -> bool {
+fn is_lone(b: u8) -> bool
+    ensures { λ r. ⌜ r ≡ isLone b ⌝ }
+{
     if b == 0x80 {
         return true;
     }
@@ -368,7 +491,10 @@ fn is_lone(b: u8) -> bool {
 }
 
 // An extension byte with the byte after it: ASCII, or an extension too.
-fn extension(b: u8, w: Scale) -> Scored {
+fn extension(b: u8, w: Scale) -> Scored
+    requires { ⌜ Small w ⌝ }
+    ensures { λ r. ⌜ r ≡ extensionOf w b ⌝ }
+{
     if is_lone(b) {
         return plain(w.extension + w.extension);
     }
@@ -384,7 +510,9 @@ fn extension(b: u8, w: Scale) -> Scored {
 }
 
 // The record after a byte.
-fn after(lead: u8, b: u8, s: Scored) -> Stepped {
+fn after(lead: u8, b: u8, s: Scored) -> Stepped
+    ensures { λ r. ⌜ outOf r ≡ afterOf lead b s ⌝ }
+{
     let prev = s.prev;
     let held = s.held;
     Stepped::Live(
@@ -402,7 +530,10 @@ fn after(lead: u8, b: u8, s: Scored) -> Stepped {
 
 impl EucKr {
     // An error that is neither a pair nor a symbol: an extension, or the machine drops out.
-    fn stray(self, lead: u8, b: u8, length: u8, w: Scale) -> Stepped {
+    fn stray(self, lead: u8, b: u8, size: u8, w: Scale) -> Stepped
+        requires { ⌜ Small w ⌝ }
+        ensures { λ r. ⌜ outOf r ≡ strayOf w self lead b size ⌝ }
+    {
         if is_extension(self.prev_byte) {
             if b < 0x80 {
                 return after(lead, b, extension(b, w));
@@ -411,7 +542,7 @@ impl EucKr {
                 return after(lead, b, extension(b, w));
             }
         }
-        if length == 1 {
+        if size == 1 {
             if is_lone(b) {
                 return after(lead, b, plain(w.extension));
             }
@@ -419,18 +550,25 @@ impl EucKr {
         Stepped::Dropped
     }
 
-    fn error(self, lead: u8, b: u8, length: u8, w: Scale) -> Stepped {
+    fn error(self, lead: u8, b: u8, size: u8, w: Scale) -> Stepped
+        requires { ⌜ Small w ⌝ }
+        requires { ⌜ SmallHeld (self .held) ⌝ }
+        requires { ⌜ self .«current_word_len» ≤ room ⌝ }
+        ensures { λ r. ⌜ outOf r ≡ errorOf w self lead b size ⌝ }
+    {
         if is_user_pair(self.prev_byte, b) {
             return after(lead, b, self.hanja(w.pua, w));
         }
         if is_mac_symbol(self.prev_byte, b) {
             return after(lead, b, self.other(w.mac));
         }
-        self.stray(lead, b, length, w)
+        self.stray(lead, b, size, w)
     }
 
     // A lead changes nothing else.
-    fn pending(self, lead: u8, b: u8) -> Stepped {
+    fn pending(self, lead: u8, b: u8) -> Stepped
+        ensures { λ r. ⌜ outOf r ≡ pendingOf self lead b ⌝ }
+    {
         let prev = self.prev;
         let held = self.held;
         Stepped::Live(
@@ -446,18 +584,33 @@ impl EucKr {
         )
     }
 
-    fn step(self, b: u8, index: &[u32], extras: &[i16], w: Scale) -> Stepped {
+    fn step(self, b: u8, index: &[u32], extras: &[i16], w: Scale) -> Stepped
+        requires { ⌜ Small w ⌝ }
+        requires { ⌜ Sound room self ⌝ }
+        requires { ⌜ length (now index) ≡ entries ⌝ }
+        requires { ⌜ length (now extras) ≡ extraCount ⌝ }
+        ensures { λ r. ⌜ outOf r ≡ stepOf (lent (now (index .entry)) (now (extras .entry)) w) self b ⌝ }
+        ensures { λ r. ⌜ Slight (outOf r) ⌝ }
+    {
         let d = decode(self.lead, b, index);
         let event = d.event;
         match event {
             Event::Pending => self.pending(d.lead, b),
             Event::Point(point) => after(d.lead, b, self.unit(point, b, extras, w)),
             Event::Two(first, _) => after(d.lead, b, self.unit(first, b, extras, w)),
-            Event::Error(length) => self.error(d.lead, b, length, w),
+            Event::Error(size) => self.error(d.lead, b, size, w),
         }
     }
 
-    fn go(self, part: &[u8], index: &[u32], extras: &[i16], w: Scale) -> Ran {
+    fn go(self, part: &[u8], index: &[u32], extras: &[i16], w: Scale) -> Ran
+        requires { ⌜ Small w ⌝ }
+        requires { ⌜ Sound limit self ⌝ }
+        requires { ⌜ length (now part) ≤ limit ⌝ }
+        requires { ⌜ length (now index) ≡ entries ⌝ }
+        requires { ⌜ length (now extras) ≡ extraCount ⌝ }
+        ensures { λ r. ⌜ r ≡ ranAs (run (stepOf (lent (now (index .entry)) (now (extras .entry)) w)) (live self (pos 0)) (now (part .entry))) ⌝ }
+        ensures { λ r. ⌜ Bounded (perByte * length (now (part .entry))) r ⌝ }
+    {
         let mut m = self;
         let mut s: i64 = 0;
         let mut i = 0;
@@ -477,7 +630,9 @@ impl EucKr {
     }
 
     // Whether the record is one that `bytes` bytes can have led to.
-    pub fn is_sound_for(self, bytes: u64) -> bool {
+    pub fn is_sound_for(self, bytes: u64) -> bool
+        ensures { λ r. ⌜ r ≡ soundB bytes self ⌝ }
+    {
         if pairs::is_lead_or_none(self.lead) {
             if self.current_word_len <= bytes {
                 let held = self.held;
@@ -487,7 +642,10 @@ impl EucKr {
         false
     }
 
-    pub fn run(self, part: &[u8], index: &[u32], extras: &[i16], weights: &[i32]) -> Ran {
+    pub fn run(self, part: &[u8], index: &[u32], extras: &[i16], weights: &[i32]) -> Ran
+        ensures { λ r. ⌜ r ≡ ranOf (now (index .entry)) (now (extras .entry)) (now (weights .entry)) self (now (part .entry)) ⌝ }
+        ensures { λ r. ⌜ Bounded (perByte * length (now (part .entry))) r ⌝ }
+    {
         if is_ready(self, part, index, extras, weights) {
             return self.go(part, index, extras, Scale::read(weights));
         }
@@ -495,7 +653,9 @@ impl EucKr {
     }
 
     // The end of the stream: none where a lead is pending. A held score counts nothing, and stays.
-    pub fn close(self) -> Ran {
+    pub fn close(self) -> Ran
+        ensures { λ r. ⌜ r ≡ closedOf self ⌝ }
+    {
         if self.is_sound_for(268435456) {
             if self.lead == 0 {
                 return Ran::Live(self, 0);
@@ -507,7 +667,9 @@ impl EucKr {
 }
 
 // Whether all is in order for a run.
-fn is_ready(m: EucKr, part: &[u8], index: &[u32], extras: &[i16], weights: &[i32]) -> bool {
+fn is_ready(m: EucKr, part: &[u8], index: &[u32], extras: &[i16], weights: &[i32]) -> bool
+    ensures { λ r. ⌜ r ≡ readyB (now (index .entry)) (now (extras .entry)) (now (weights .entry)) m (now (part .entry)) ⌝ }
+{
     if m.is_sound_for(268435456) {
         if part.len() <= 268435456 {
             if index.len() == 23940 {

@@ -1,0 +1,52 @@
+use borrow.Author.Needs.{needs}
+use Rattle.euckr.proofs.EucKr.holds.Statement.{statement}
+use Rattle.euckr.proofs.EucKr.holds.Tie as tie
+
+enum-told : tie.Need-enum-told
+enum-told c = search needs
+
+problematic-lead-requires : tie.Need-problematic-lead-requires
+problematic-lead-requires c κs = search needs
+
+enum-told-2 : tie.Need-enum-told-2
+enum-told-2 c = search needs
+
+enum-told-3 : tie.Need-enum-told-3
+enum-told-3 c = search needs
+
+problematic-lead-requires-2 : tie.Need-problematic-lead-requires-2
+problematic-lead-requires-2 c κs = search needs
+
+enum-told-4 : tie.Need-enum-told-4
+enum-told-4 c = search needs
+
+problematic-lead-requires-3 : tie.Need-problematic-lead-requires-3
+problematic-lead-requires-3 c κs = search needs
+
+returns : tie.Need-returns
+returns c = ?
+
+returns-2 : tie.Need-returns-2
+returns-2 c = ?
+
+returns-3 : tie.Need-returns-3
+returns-3 c = ?
+
+returns-4 : tie.Need-returns-4
+returns-4 c = ?
+
+pub holds-spec : {M : Type 1} → statement M
+holds-spec =
+    tie.close
+    (tie.spec
+    enum-told
+    problematic-lead-requires
+    enum-told-2
+    enum-told-3
+    problematic-lead-requires-2
+    enum-told-4
+    problematic-lead-requires-3
+    returns
+    returns-2
+    returns-3
+    returns-4)

@@ -1,0 +1,12 @@
+use borrow.Author.Needs.{needs}
+use Rattle.euckr.proofs.after.Statement.{statement}
+use Rattle.euckr.proofs.after.Tie as tie
+
+is-euc-requires : tie.Need-is-euc-requires
+is-euc-requires c κs = search needs
+
+returns : tie.Need-returns
+returns c = ?
+
+pub after-spec : {M : Type 1} → statement M
+after-spec = tie.close (tie.spec is-euc-requires returns)

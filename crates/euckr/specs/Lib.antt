@@ -1,0 +1,4 @@
+pub mod Standard
+pub mod Scoring
+pub mod EucKr
+pub mod Ways
