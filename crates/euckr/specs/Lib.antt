@@ -2,3 +2,4 @@ pub mod Standard
 pub mod Scoring
 pub mod EucKr
 pub mod Ways
+pub mod EucKrLaws

@@ -92,8 +92,8 @@ module _ (w : Scale) (m : EucKr) where
   aroundOf = releasedOf (m .held) +ℤ hangulAfter w (m .prev) +ℤ longOf w (m .«current_word_len» + 1)
 
   -- a Hangul of two bytes in the EUC range, with its extra
-  unfoldable pub innerOf : List ℤ → ℕ → Scored
-  innerOf extras u = scored Hangul (m .«current_word_len» + 1) Nothing (aroundOf +ℤ w .hangul +ℤ extraOf extras u)
+  unfoldable pub innerOf : ℤ → Scored
+  innerOf extra = scored Hangul (m .«current_word_len» + 1) Nothing (aroundOf +ℤ w .hangul +ℤ extra)
 
   -- any other Hangul: its score is added, or held
   unfoldable pub outerOf : Scored
@@ -103,7 +103,7 @@ module _ (w : Scale) (m : EucKr) where
       (scored Hangul (m .«current_word_len» + 1) Nothing (aroundOf +ℤ w .outer))
 
   unfoldable pub hangulOf : List ℤ → ℕ → ℕ → Scored
-  hangulOf extras u b = cond (m .«prev_was_euc_range» && isEuc b) (innerOf extras u) outerOf
+  hangulOf extras u b = cond (m .«prev_was_euc_range» && isEuc b) (innerOf (extraOf extras u)) outerOf
 
   -- a Hanja, or a pair that counts as one
   unfoldable pub hanjaOf : ℤ → Scored

@@ -306,21 +306,19 @@ impl EucKr {
         held.released() + w.hangul_after(prev) + w.of_word(self.current_word_len + 1)
     }
 
-    // A Hangul of two bytes in the EUC range.
-    fn euc_hangul(self, u: u32, extras: &[i16], w: Scale) -> Scored
+    // A Hangul of two bytes in the EUC range, with its extra.
+    fn inner_hangul(self, extra: i64, w: Scale) -> Scored
         requires { ⌜ Small w ⌝ }
         requires { ⌜ SmallHeld (self .held) ⌝ }
         requires { ⌜ self .«current_word_len» ≤ room ⌝ }
-        requires { ⌜ length (now extras) ≡ extraCount ⌝ }
-        requires { ⌜ isHangul u ≡ true ⌝ }
-        ensures { λ r. ⌜ r ≡ innerOf w self (now (extras .entry)) u ⌝ }
-        ensures { λ r. ⌜ natAbs (r .gain) ≤ perByte ⌝ }
+        requires { ⌜ natAbs extra ≤ term ⌝ }
+        ensures { λ r. ⌜ r ≡ innerOf w self extra ⌝ }
     {
         Scored {
             prev: LatinKorean::Hangul,
             word: self.current_word_len + 1,
             held: Held::Nothing,
-            gain: self.around_hangul(w) + w.hangul + extra(extras, u),
+            gain: self.around_hangul(w) + w.hangul + extra,
         }
     }
 
@@ -359,7 +357,7 @@ impl EucKr {
     {
         if self.prev_was_euc_range {
             if is_euc(b) {
-                return self.euc_hangul(u, extras, w);
+                return self.inner_hangul(extra(extras, u), w);
             }
         }
         self.outer_hangul(w)

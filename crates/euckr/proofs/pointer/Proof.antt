@@ -1,3 +1,7 @@
+-- `pointer` meets its contract. Assumes nothing.
+use mathlib.Core.Path.{refl}
+use native.Mathlib.Omega.{arith}
+use Rattle.euckr.specs.Ways.{range-true}
 use borrow.Author.Needs.{needs}
 use Rattle.euckr.proofs.pointer.Statement.{statement}
 use Rattle.euckr.proofs.pointer.Tie as tie
@@ -12,7 +16,7 @@ mul-result : tie.Need-mul-result
 mul-result c = search needs
 
 sub-result-2 : tie.Need-sub-result-2
-sub-result-2 c = ?
+sub-result-2 c = let h = range-true 0x41 0xFE (c .args .b) (c .pre .1) in omega arith
 
 cast-result-2 : tie.Need-cast-result-2
 cast-result-2 c = search needs
@@ -21,7 +25,7 @@ add-result : tie.Need-add-result
 add-result c = search needs
 
 returns : tie.Need-returns
-returns c = ?
+returns c = let h = range-true 0x41 0xFE (c .args .b) (c .pre .1) in (refl, omega arith)
 
 pub pointer-spec : {M : Type 1} → statement M
 pointer-spec =

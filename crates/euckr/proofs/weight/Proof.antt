@@ -1,3 +1,11 @@
+-- `weight` meets its contract. Assumes nothing.
+use Prim.Native.Nat.{ℕ, _-_}
+use lib.IntN.{ℤ, pos}
+use lib.ListN.{getD}
+use native.Mathlib.Omega.{arith}
+use mir.Syntax.{w32}
+use mir.Val.{SFits}
+use Rattle.laws.specs.Sizes.{wide32-fits, wide32-read, abs-fits}
 use borrow.Author.Needs.{needs}
 use Rattle.euckr.proofs.weight.Statement.{statement}
 use Rattle.euckr.proofs.weight.Tie as tie
@@ -9,10 +17,14 @@ shared-slice-copy-out-result : tie.Need-shared-slice-copy-out-result
 shared-slice-copy-out-result c = search needs
 
 cast-result : tie.Need-cast-result
-cast-result c = ?
+cast-result c = wide32-fits (getD (c .before .args .weights .now) (c .before .args .k) (pos 0)) (record { sfits = c .result .given })
 
 returns : tie.Need-returns
-returns c = ?
+returns c = 
+    let z = getD (c .before .args .weights .now) (c .before .args .k) (pos 0) in
+    let f : SFits w32 z = record { sfits = c .result .given } in
+    let e = wide32-read z f in
+    (e, rw e (omega (arith, abs-fits w32 z f)))
 
 pub weight-spec : {M : Type 1} → statement M
 weight-spec = tie.close (tie.spec mul-result shared-slice-copy-out-result cast-result returns)

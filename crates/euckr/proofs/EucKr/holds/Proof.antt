@@ -1,3 +1,5 @@
+-- `EucKr::holds` meets its contract. Assumes nothing.
+use Rattle.euckr.specs.Scoring.{holdsOf}
 use borrow.Author.Needs.{needs}
 use Rattle.euckr.proofs.EucKr.holds.Statement.{statement}
 use Rattle.euckr.proofs.EucKr.holds.Tie as tie
@@ -24,16 +26,20 @@ problematic-lead-requires-3 : tie.Need-problematic-lead-requires-3
 problematic-lead-requires-3 c κs = search needs
 
 returns : tie.Need-returns
-returns c = ?
+unfolding holdsOf
+returns c = rw (c .before .enum-told .given .1) (c .problematic-lead .ensures)
 
 returns-2 : tie.Need-returns-2
-returns-2 c = ?
+unfolding holdsOf
+returns-2 c = rw (c .enum-told2 .given .1)
 
 returns-3 : tie.Need-returns-3
-returns-3 c = ?
+unfolding holdsOf
+returns-3 c = rw (c .before .enum-told3 .given .1) (c .problematic-lead2 .ensures)
 
 returns-4 : tie.Need-returns-4
-returns-4 c = ?
+unfolding holdsOf
+returns-4 c = rw (c .before .enum-told4 .given .1) (c .problematic-lead3 .ensures)
 
 pub holds-spec : {M : Type 1} → statement M
 holds-spec =
