@@ -6,3 +6,4 @@ pub mod EucKrLaws
 pub mod StandardLaws
 pub mod HeldLaws
 pub mod AsciiLaws
+pub mod Edges

@@ -17,7 +17,7 @@ pub data Pair (index : List ℕ) : ℕ → ℕ → Event → Type 0 where
   no-trail : (lead b : ℕ) → isTrail b ≡ false → Pair index lead b (malformedOf b)
 
 module _ (index : List ℕ) where
-  is-mapped : (lead b : ℕ) → isTrail b ≡ true → isMapped (getD index (pointerOf lead b) 0) ≡ true → pairOf index lead b ≡ Point (getD index (pointerOf lead b) 0)
+  pub is-mapped : (lead b : ℕ) → isTrail b ≡ true → isMapped (getD index (pointerOf lead b) 0) ≡ true → pairOf index lead b ≡ Point (getD index (pointerOf lead b) 0)
   unfolding pairOf entryOf
   is-mapped lead b t m = rw (t, m)
 

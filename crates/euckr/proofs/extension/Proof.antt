@@ -24,7 +24,7 @@ plain-requires c κs = search needs
 
 returns : tie.Need-returns
 unfolding extensionOf
-returns c = 
+returns c =
     let s = c .before .before .before .before .before in
     let t : isLone (s .args .b) ≡ true = sym (c .before .before .before .before .is-lone .ensures) ∙ c .before .before .before .if1 .taken in
     rw t (c .plain .ensures ∙ ap (scored Other 0 Nothing) (sum-read (s .args .w .extension) (s .args .w .extension) term term (s .pre .extension) (s .pre .extension) (omega arith)))
@@ -34,7 +34,7 @@ is-ascii-letter-requires c κs = search needs
 
 returns-2 : tie.Need-returns-2
 unfolding extensionOf
-returns-2 c = 
+returns-2 c =
     let s = c .before .before .before .before .before in
     let t : isLone (s .args .b) ≡ false = sym (c .before .before .before .before .is-lone .ensures) ∙ c .before .before .before .if1 .left in
     let l : letter (s .args .b) ≡ true = sym (c .before .before .is-ascii-letter .ensures) ∙ c .before .if2 .taken in
@@ -45,7 +45,7 @@ plain-requires-2 c κs = search needs
 
 returns-3 : tie.Need-returns-3
 unfolding extensionOf
-returns-3 c = 
+returns-3 c =
     let s = c .before .before .before .before .before .before in
     let t : isLone (s .args .b) ≡ false = sym (c .before .before .before .before .before .is-lone .ensures) ∙ c .before .before .before .before .if1 .left in
     let l : letter (s .args .b) ≡ false = sym (c .before .before .before .is-ascii-letter .ensures) ∙ c .before .before .if2 .left in

@@ -29,7 +29,7 @@ cast-result-2 c = wide16-fits (getD (c .before .args .extras .now) (c .before .a
 
 returns : tie.Need-returns
 unfolding extraOf
-returns c = 
+returns c =
     let z = getD (c .before .args .extras .now) (c .before .args .u - 0xAC00) (pos 0) in
     let f : SFits w16 z = record { sfits = c .result .given } in
     let e = wide16-read z f in

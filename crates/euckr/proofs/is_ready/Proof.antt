@@ -13,35 +13,35 @@ is-sound-for-requires c κs = search needs
 
 returns : tie.Need-returns
 unfolding readyB
-returns c = 
+returns c =
     let s = c .before .before .before .before .before .before .before in
     let t : soundB limit (s .args .m) ≡ true = sym (c .before .before .before .before .is-sound-for .ensures) ∙ c .before .before .before .if1 .taken in
     rw (t, le-leb _ _ (c .before .before .if2 .taken), eq-eqb _ _ (c .before .if3 .taken), eq-eqb _ _ (c .if4 .taken))
 
 returns-2 : tie.Need-returns-2
 unfolding readyB
-returns-2 c = 
+returns-2 c =
     let s = c .before .before .before .before .before .before .before in
     let t : soundB limit (s .args .m) ≡ true = sym (c .before .before .before .before .is-sound-for .ensures) ∙ c .before .before .before .if1 .taken in
     rw (t, le-leb _ _ (c .before .before .if2 .taken), eq-eqb _ _ (c .before .if3 .taken), ne-eqb _ _ (c .if4 .left))
 
 returns-3 : tie.Need-returns-3
 unfolding readyB
-returns-3 c = 
+returns-3 c =
     let s = c .before .before .before .before .before .before in
     let t : soundB limit (s .args .m) ≡ true = sym (c .before .before .before .is-sound-for .ensures) ∙ c .before .before .if1 .taken in
     rw (t, le-leb _ _ (c .before .if2 .taken), ne-eqb _ _ (c .if3 .left))
 
 returns-4 : tie.Need-returns-4
 unfolding readyB
-returns-4 c = 
+returns-4 c =
     let s = c .before .before .before .before .before in
     let t : soundB limit (s .args .m) ≡ true = sym (c .before .before .is-sound-for .ensures) ∙ c .before .if1 .taken in
     rw (t, lt-leb _ _ (c .if2 .left))
 
 returns-5 : tie.Need-returns-5
 unfolding readyB
-returns-5 c = 
+returns-5 c =
     let s = c .before .before .before .before in
     let t : soundB limit (s .args .m) ≡ false = sym (c .before .is-sound-for .ensures) ∙ c .if1 .left in
     rw t

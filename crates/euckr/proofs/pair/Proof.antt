@@ -24,7 +24,7 @@ is-mapped-requires : tie.Need-is-mapped-requires
 is-mapped-requires c κs = search needs
 
 returns : tie.Need-returns
-returns c = 
+returns c =
     let s = c .before .before .before .before .before .before .before in
     let a = c .before .before .before .pointer in
     pair-mapped (s .args .index .now) (s .args .lead) (s .args .b) (a .result) (sym (c .before .before .before .before .before .is-trail .ensures) ∙ c .before .before .before .before .if1 .taken) (a .ensures .0) (sym (c .before .is-mapped .ensures) ∙ c .if2 .taken)
@@ -33,7 +33,7 @@ malformed-requires : tie.Need-malformed-requires
 malformed-requires c κs = search needs
 
 returns-2 : tie.Need-returns-2
-returns-2 c = 
+returns-2 c =
     let s = c .before .before .before .before in
     let j = c .before in
     c .malformed .ensures ∙ ⊎-elim (λ w. pair-none (s .args .index .now) (s .args .lead) (s .args .b) (w .1 .result) (inl (sym (j .before .is-trail .ensures) ∙ w .0 .taken, w .1 .ensures .0, sym (w .3 .ensures) ∙ w .4 .left))) (λ w. pair-none (s .args .index .now) (s .args .lead) (s .args .b) 0 (inr (sym (j .before .is-trail .ensures) ∙ w .left))) (j .if1 .came)

@@ -20,7 +20,7 @@ cast-result : tie.Need-cast-result
 cast-result c = wide32-fits (getD (c .before .args .weights .now) (c .before .args .k) (pos 0)) (record { sfits = c .result .given })
 
 returns : tie.Need-returns
-returns c = 
+returns c =
     let z = getD (c .before .args .weights .now) (c .before .args .k) (pos 0) in
     let f : SFits w32 z = record { sfits = c .result .given } in
     let e = wide32-read z f in

@@ -13,21 +13,21 @@ is-sound-for-requires c κs = search needs
 
 returns : tie.Need-returns
 unfolding closedOf
-returns c = 
+returns c =
     let s = c .before .before .before .before in
     let t : soundB limit (s .args .self) ≡ true = sym (c .before .before .before .is-sound-for .ensures) ∙ c .before .before .if1 .taken in
     rw (t, eq-eqb _ _ (c .if2 .taken))
 
 returns-2 : tie.Need-returns-2
 unfolding closedOf
-returns-2 c = 
+returns-2 c =
     let s = c .before .before .before .before in
     let t : soundB limit (s .args .self) ≡ true = sym (c .before .before .before .is-sound-for .ensures) ∙ c .before .before .if1 .taken in
     rw (t, ne-eqb _ _ (c .if2 .left))
 
 returns-3 : tie.Need-returns-3
 unfolding closedOf
-returns-3 c = 
+returns-3 c =
     let s = c .before .before in
     let t : soundB limit (s .args .self) ≡ false = sym (c .before .is-sound-for .ensures) ∙ c .if1 .left in
     rw t

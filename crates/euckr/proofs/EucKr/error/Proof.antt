@@ -20,7 +20,7 @@ after-requires c κs = search needs
 
 returns : tie.Need-returns
 unfolding errorOf
-returns c = 
+returns c =
     let s = c .before .before .before .before .before in
     let p : isUserPair (s .args .self .«prev_byte») (s .args .b) ≡ true = sym (c .before .before .before .before .is-user-pair .ensures) ∙ c .before .before .before .if1 .taken in
     rw p (c .after .ensures ∙ ap (afterOf (s .args .lead) (s .args .b)) (c .before .hanja .ensures ∙ ap (hanjaOf (s .args .w) (s .args .self)) (thru64 (s .args .w .pua) term (s .pre .0 .pua) (omega arith))))
@@ -36,7 +36,7 @@ after-requires-2 c κs = search needs
 
 returns-2 : tie.Need-returns-2
 unfolding errorOf
-returns-2 c = 
+returns-2 c =
     let s = c .before .before .before .before .before .before .before in
     let p : isUserPair (s .args .self .«prev_byte») (s .args .b) ≡ false = sym (c .before .before .before .before .before .before .is-user-pair .ensures) ∙ c .before .before .before .before .before .if1 .left in
     let q : isMacSymbol (s .args .self .«prev_byte») (s .args .b) ≡ true = sym (c .before .before .before .before .is-mac-symbol .ensures) ∙ c .before .before .before .if2 .taken in
@@ -47,7 +47,7 @@ stray-requires c κs = search needs
 
 returns-3 : tie.Need-returns-3
 unfolding errorOf
-returns-3 c = 
+returns-3 c =
     let s = c .before .before .before .before .before in
     let p : isUserPair (s .args .self .«prev_byte») (s .args .b) ≡ false = sym (c .before .before .before .before .is-user-pair .ensures) ∙ c .before .before .before .if1 .left in
     let q : isMacSymbol (s .args .self .«prev_byte») (s .args .b) ≡ false = sym (c .before .before .is-mac-symbol .ensures) ∙ c .before .if2 .left in

@@ -19,7 +19,7 @@ inner-hangul-requires : tie.Need-inner-hangul-requires
 inner-hangul-requires c κs = search needs
 
 returns : tie.Need-returns
-returns c = 
+returns c =
     let s = c .before .before .before .before .before in
     let x = c .before .extra in
     let e = read (x .result) (x .ok) in
@@ -29,7 +29,7 @@ outer-hangul-requires : tie.Need-outer-hangul-requires
 outer-hangul-requires c κs = search needs
 
 returns-2 : tie.Need-returns-2
-returns-2 c = 
+returns-2 c =
     let s = c .before .before in
     let j = c .before in
     (c .outer-hangul .ensures ∙ hangul-outer (s .args .w) (s .args .self) (s .args .extras .now) (s .args .u) (s .args .b) (⊎-elim (λ w. inl (w .0 .taken, sym (w .1 .ensures) ∙ w .2 .left)) (λ w. inr (w .left)) (j .if1 .came)), rw (c .outer-hangul .ensures) (outer-small (s .args .w) (s .pre .0) (s .args .self) (s .pre .1 .0)))

@@ -22,7 +22,7 @@ add-t6 c = search needs
 
 returns : tie.Need-returns
 unfolding outerOf
-returns c = 
+returns c =
     let s = c .before .before .before .before .before in
     let g = c .before .before .before .before .around-hangul in
     let t : holdsOf (s .args .self) ≡ true = sym (c .before .before .before .holds .ensures) ∙ c .before .before .if1 .taken in
@@ -32,13 +32,13 @@ add-t9 : tie.Need-add-t9
 add-t9 c = search needs
 
 add-t11 : tie.Need-add-t11
-add-t11 c = 
+add-t11 c =
     let s = c .before .before .before .before .before .before in
     rw (c .before .before .before .before .before .around-hangul .ensures) (outer-fits (s .args .w) (s .pre .0) (s .args .self) (s .pre .1 .0))
 
 returns-2 : tie.Need-returns-2
 unfolding outerOf
-returns-2 c = 
+returns-2 c =
     let s = c .before .before .before .before .before .before in
     let t : holdsOf (s .args .self) ≡ false = sym (c .before .before .before .before .holds .ensures) ∙ c .before .before .before .if1 .left in
     rw (t, c .before .before .before .before .before .around-hangul .ensures, outer-read (s .args .w) (s .pre .0) (s .args .self) (s .pre .1 .0))

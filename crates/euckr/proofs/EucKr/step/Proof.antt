@@ -42,25 +42,25 @@ error-requires : tie.Need-error-requires
 error-requires c κs = search needs
 
 returns : tie.Need-returns
-returns c = 
+returns c =
     let s = c .before .before .before .before .before in
     let d = c .before .before .before .decode in
     (c .pending .ensures ∙ (step-on (lent (s .args .index .now) (s .args .extras .now) (s .args .w)) (s .args .self) (s .args .b) (d .result) (d .ensures) _ (c .before .enum-told .given .1)), rw (c .pending .ensures) (omega arith))
 
 returns-2 : tie.Need-returns-2
-returns-2 c = 
+returns-2 c =
     let s = c .before .before .before .before .before .before .before in
     let d = c .before .before .before .before .before .decode in
     (c .after .ensures ∙ (ap (afterOf (d .result .lead) (s .args .b)) (c .before .unit .ensures .0) ∙ step-on (lent (s .args .index .now) (s .args .extras .now) (s .args .w)) (s .args .self) (s .args .b) (d .result) (d .ensures) _ (c .before .before .before .event .given .1)), rw (c .after .ensures) (c .before .unit .ensures .1))
 
 returns-3 : tie.Need-returns-3
-returns-3 c = 
+returns-3 c =
     let s = c .before .before .before .before .before .before .before in
     let d = c .before .before .before .before .before .decode in
     (c .after2 .ensures ∙ (ap (afterOf (d .result .lead) (s .args .b)) (c .before .unit2 .ensures .0) ∙ step-on (lent (s .args .index .now) (s .args .extras .now) (s .args .w)) (s .args .self) (s .args .b) (d .result) (d .ensures) _ (c .before .before .before .event2 .given .1)), rw (c .after2 .ensures) (c .before .unit2 .ensures .1))
 
 returns-4 : tie.Need-returns-4
-returns-4 c = 
+returns-4 c =
     let s = c .before .before .before .before .before .before in
     let d = c .before .before .before .before .decode in
     (c .error .ensures ∙ (step-on (lent (s .args .index .now) (s .args .extras .now) (s .args .w)) (s .args .self) (s .args .b) (d .result) (d .ensures) _ (c .before .before .event3 .given .1)), rw (c .error .ensures) (error-slight (s .args .w) (s .pre .0) (s .args .self) (s .pre .1 .0 .held-small) (d .result .lead) (s .args .b) _))

@@ -21,7 +21,7 @@ letter-requires c κs = search needs
 
 returns : tie.Need-returns
 unfolding unitOf
-returns c = 
+returns c =
     let s = c .before .before .before in
     let a : letter (s .args .u) ≡ true = sym (c .before .before .is-letter .ensures) ∙ c .before .if1 .taken in
     (rw a (c .letter .ensures), rw (c .letter .ensures) (letter-small (s .args .w) (s .pre .0) (s .args .self) (s .pre .1 .0)))
@@ -30,14 +30,14 @@ is-hangul-requires : tie.Need-is-hangul-requires
 is-hangul-requires c κs = search needs
 
 hangul-requires : tie.Need-hangul-requires
-hangul-requires c κs = 
+hangul-requires c κs =
     let s = c .before .before .before .before in
     let h : isHangul (s .args .u) ≡ true = sym (c .before .is-hangul .ensures) ∙ c .if2 .taken in
     (s .pre .0, (s .pre .1 .0, (s .pre .1 .1 .0, (s .pre .1 .1 .1, h))))
 
 returns-2 : tie.Need-returns-2
 unfolding unitOf
-returns-2 c = 
+returns-2 c =
     let s = c .before .before .before .before .before in
     let a : letter (s .args .u) ≡ false = sym (c .before .before .before .before .is-letter .ensures) ∙ c .before .before .before .if1 .left in
     let h : isHangul (s .args .u) ≡ true = sym (c .before .before .is-hangul .ensures) ∙ c .before .if2 .taken in
@@ -47,13 +47,13 @@ is-hanja-requires : tie.Need-is-hanja-requires
 is-hanja-requires c κs = search needs
 
 hanja-requires : tie.Need-hanja-requires
-hanja-requires c κs = 
+hanja-requires c κs =
     let s = c .before .before .before .before .before .before .before in
     (s .pre .0, (s .pre .1 .0, (s .pre .1 .1 .0, rw (thru64 (s .args .w .hanja) term (s .pre .0 .hanja) (omega arith)) (s .pre .0 .hanja))))
 
 returns-3 : tie.Need-returns-3
 unfolding unitOf
-returns-3 c = 
+returns-3 c =
     let s = c .before .before .before .before .before .before .before .before in
     let a : letter (s .args .u) ≡ false = sym (c .before .before .before .before .before .before .before .is-letter .ensures) ∙ c .before .before .before .before .before .before .if1 .left in
     let h : isHangul (s .args .u) ≡ false = sym (c .before .before .before .before .before .is-hangul .ensures) ∙ c .before .before .before .before .if2 .left in
@@ -66,7 +66,7 @@ plain-requires c κs = search needs
 
 returns-4 : tie.Need-returns-4
 unfolding unitOf
-returns-4 c = 
+returns-4 c =
     let s = c .before .before .before .before .before .before .before .before in
     let a : letter (s .args .u) ≡ false = sym (c .before .before .before .before .before .before .before .is-letter .ensures) ∙ c .before .before .before .before .before .before .if1 .left in
     let h : isHangul (s .args .u) ≡ false = sym (c .before .before .before .before .before .is-hangul .ensures) ∙ c .before .before .before .before .if2 .left in
@@ -78,7 +78,7 @@ other-requires c κs = search needs
 
 returns-5 : tie.Need-returns-5
 unfolding unitOf
-returns-5 c = 
+returns-5 c =
     let s = c .before .before .before .before .before .before .before .before .before in
     let a : letter (s .args .u) ≡ false = sym (c .before .before .before .before .before .before .before .before .is-letter .ensures) ∙ c .before .before .before .before .before .before .before .if1 .left in
     let h : isHangul (s .args .u) ≡ false = sym (c .before .before .before .before .before .before .is-hangul .ensures) ∙ c .before .before .before .before .before .if2 .left in

@@ -39,7 +39,7 @@ weight-requires-10 c κs = search needs
 
 returns : tie.Need-returns
 unfolding scaleOf
-returns c = 
+returns c =
     let e0 = thru64 (c .before .before .before .before .before .before .before .before .before .weight .result) term (c .before .before .before .before .before .before .before .before .before .weight .ensures .1) (omega arith) in
     let e1 = thru64 (c .before .before .before .before .before .before .before .before .weight2 .result) term (c .before .before .before .before .before .before .before .before .weight2 .ensures .1) (omega arith) in
     let e2 = thru64 (c .before .before .before .before .before .before .before .weight3 .result) term (c .before .before .before .before .before .before .before .weight3 .ensures .1) (omega arith) in
