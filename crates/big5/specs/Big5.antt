@@ -7,7 +7,7 @@ use lib.Dec.{leb, eqb}
 use lib.IntN.{ℤ, pos, natAbs}
 use lib.ListN.{length}
 use Rattle.laws.specs.Run.{Out, none, live, run}
-use Rattle.pairs.specs.Pairs.{isLeadOrNone, SmallHeld, smallHeldB}
+use Rattle.pairs.specs.Pairs.{isLeadOrNone, releasedOf, smallHeldB}
 use Rattle.weights.specs.Weights.{weightCount, term, limit}
 use Rattle.big5.specs.Standard.{entries}
 use Rattle.big5.specs.Scoring.{lent, scaleOf, stepOf}
@@ -21,7 +21,7 @@ use Rattle.big5.specs.declared.Ran.the-variants.{Live, Dropped, Unfit}
 -- a record that n bytes can have led to; Big5 counts nothing
 pub record Sound (n : ℕ) (m : Big5) : Type 0 where
   pub lead-fits : isLeadOrNone (m .lead) ≡ true
-  pub held-small : SmallHeld (m .held)
+  pub held-small : natAbs (releasedOf (m .held)) ≤ term
 
 unfoldable pub soundB : ℕ → Big5 → Bool
 soundB n m = isLeadOrNone (m .lead) && smallHeldB (m .held)

@@ -7,7 +7,7 @@ use lib.Dec.{leb, eqb}
 use lib.IntN.{ℤ, pos, natAbs}
 use lib.ListN.{length}
 use Rattle.laws.specs.Run.{Out, none, live, run}
-use Rattle.pairs.specs.Pairs.{isLeadOrNone, SmallHeld, smallHeldB}
+use Rattle.pairs.specs.Pairs.{isLeadOrNone, releasedOf, smallHeldB}
 use Rattle.weights.specs.Weights.{weightCount, term, perByte, limit}
 use Rattle.euckr.specs.Standard.{entries}
 use Rattle.euckr.specs.Scoring.{extraCount, lent, scaleOf, stepOf}
@@ -22,7 +22,7 @@ use Rattle.euckr.specs.declared.Ran.the-variants.{Live, Dropped, Unfit}
 pub record Sound (n : ℕ) (m : EucKr) : Type 0 where
   pub lead-fits : isLeadOrNone (m .lead) ≡ true
   pub word-most : m .«current_word_len» ≤ n
-  pub held-small : SmallHeld (m .held)
+  pub held-small : natAbs (releasedOf (m .held)) ≤ term
 
 unfoldable pub soundB : ℕ → EucKr → Bool
 soundB n m = isLeadOrNone (m .lead) && (leb (m .«current_word_len») n && smallHeldB (m .held))
