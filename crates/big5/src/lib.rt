@@ -7,12 +7,13 @@ ghost use lib.ListN.{length, getD};
 ghost use Rattle.laws.specs.Run.{live, run};
 ghost use Rattle.pairs.specs.Pairs.{isLeadOrNone, SmallHeld};
 ghost use Rattle.weights.specs.Weights.{term, perByte, limit, weightCount};
-ghost use Rattle.big5.specs.Standard.{entries, isTrail, pointerOf, isMapped, entryOf, pairOf, decodeOf};
+ghost use Rattle.big5.specs.Standard.{entries, isTrail, pointerOf, isMapped, entryOf, pairOf, decodeOf, replyOf};
 ghost use Rattle.big5.specs.Scoring.{scaleOf, isHanzi, isDistinct, besideOf, holdsOf, hanziWeight, letterOf, hanziOf, otherOf, unitOf, pointOf, unmappedOf, extensionOf, isPair, isExtension, after as afterOf, strayOf, errorOf, onEvent, lent, freshOf, stepOf, scored};
 ghost use Rattle.big5.specs.Big5.{Sound, soundB, Small, outOf, ranAs, Bounded, readyB, Ready, ranOf, closedOf};
 use pairs::Decoded;
 use pairs::Event;
 use pairs::Held;
+use pairs::Reply;
 
 // The kind of what came before.
 pub enum LatinCj {
@@ -150,6 +151,18 @@ fn decode(lead: u8, b: u8, index: &[u32]) -> Decoded
     }
     let event = pair(lead, b, index);
     Decoded { lead: 0, event }
+}
+
+// The decoder alone: a lead, or 0, and a byte, over an index of the right length.
+pub fn decoded(lead: u8, b: u8, index: &[u32]) -> Reply
+    ensures { λ r. ⌜ r ≡ replyOf (now (index .entry)) lead b ⌝ }
+{
+    if pairs::is_lead_or_none(lead) {
+        if index.len() == 19782 {
+            return Reply::Byte(decode(lead, b, index));
+        }
+    }
+    Reply::Unfit
 }
 
 // ---- what the tests of a unit say

@@ -8,13 +8,14 @@ ghost use Rattle.laws.specs.Run.{live, run};
 ghost use Rattle.pairs.specs.Pairs.{isLeadOrNone, SmallHeld};
 ghost use Rattle.pairs.specs.declared.Held.the-variants.{Nothing};
 ghost use Rattle.weights.specs.Weights.{term, perByte, limit, weightCount};
-ghost use Rattle.euckr.specs.Standard.{entries, isTrail, pointerOf, isMapped, pairOf, decodeOf};
+ghost use Rattle.euckr.specs.Standard.{entries, isTrail, pointerOf, isMapped, pairOf, decodeOf, replyOf};
 ghost use Rattle.euckr.specs.Scoring.{scaleOf, extraCount, extraOf, isEuc, isHangul, isHanja, hangulAfter, hanjaAfter, letterAfter, longOf, holdsOf, scored, letterOf, aroundOf, innerOf, outerOf, hangulOf, hanjaOf, otherOf, unitOf, isUserPair, isMacLead, isMacSymbol, isExtension, isLone, extensionOf, after as afterOf, pendingOf, strayOf, errorOf, lent, freshOf, stepOf};
 ghost use Rattle.euckr.specs.EucKr.{Sound, soundB, Small, room, outOf, ranAs, Slight, Bounded, readyB, ranOf, closedOf};
 ghost use Rattle.euckr.specs.declared.LatinKorean.the-variants.{Other};
 use pairs::Decoded;
 use pairs::Event;
 use pairs::Held;
+use pairs::Reply;
 
 // The kind of what came before.
 pub enum LatinKorean {
@@ -128,6 +129,18 @@ fn decode(lead: u8, b: u8, index: &[u32]) -> Decoded
     }
     let event = pair(lead, b, index);
     Decoded { lead: 0, event }
+}
+
+// The decoder alone: a lead, or 0, and a byte, over an index of the right length.
+pub fn decoded(lead: u8, b: u8, index: &[u32]) -> Reply
+    ensures { λ r. ⌜ r ≡ replyOf (now (index .entry)) lead b ⌝ }
+{
+    if pairs::is_lead_or_none(lead) {
+        if index.len() == 23940 {
+            return Reply::Byte(decode(lead, b, index));
+        }
+    }
+    Reply::Unfit
 }
 
 // ---- what the tests of a byte or a unit say

@@ -18,6 +18,12 @@ pub struct Decoded {
     pub event: Event,
 }
 
+// What a decoder alone answers: or its lead or its index was not fit.
+pub enum Reply {
+    Byte(Decoded),
+    Unfit,
+}
+
 // A score that waits for what follows (`pending_score` in the Rust).
 pub enum Held {
     Nothing,
