@@ -1,8 +1,8 @@
 -- Laws of the Big5 machine: what a record holds is kept, a byte adds at most five terms, the tests decide, a run joins. Assumes nothing.
-use mathlib.Core.Path.{_≡_, refl, sym, ap, _∙_}
+use mathlib.Core.Path.{_≡_}
 use mathlib.Core.Bool.{Bool, true, false, cond, _&&_}
 use mathlib.Core.List.{List, _++_}
-use Prim.Native.Nat.{ℕ, _+_, _*_, _≤_}
+use Prim.Native.Nat.{ℕ, _+_, _≤_}
 use native.Mathlib.Omega.{arith}
 use lib.Dec.{leb, ltb, eqb}
 use lib.IntN.{ℤ, pos, natAbs, _+ℤ_}
@@ -25,7 +25,6 @@ use Rattle.big5.specs.Ways.{beside-small, hanzi-small}
 use Rattle.big5.specs.declared.Big5.{Big5}
 use Rattle.big5.specs.declared.LatinCj.{LatinCj}
 use Rattle.big5.specs.declared.LatinCj.the-variants.{AsciiLetter, Cj, Other}
-use Rattle.big5.specs.declared.Ran.{Ran}
 use Rattle.big5.specs.declared.Ran.the-variants.{Unfit}
 use Rattle.big5.specs.declared.Scale.{Scale}
 use Rattle.big5.specs.declared.Scored.{Scored}

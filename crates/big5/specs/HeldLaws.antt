@@ -1,6 +1,6 @@
 -- When a score is held: only after a lead that holds, where the kind before is not Cj; and it is one of the two scores of a
 -- Hanzi. A lead leaves it as it was; every other byte releases or discards it. Assumes nothing.
-use mathlib.Core.Path.{_≡_, refl, sym, ap, _∙_}
+use mathlib.Core.Path.{_≡_, refl}
 use mathlib.Core.Bool.{Bool, true, false, cond, not, _&&_}
 use mathlib.Core.Logic.{_⊎_, inl, inr}
 use Prim.Native.Nat.{ℕ}

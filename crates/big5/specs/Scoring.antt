@@ -8,7 +8,6 @@ use Rattle.laws.specs.Lists.{isIn}
 use Rattle.laws.specs.Run.{Out, none, live}
 use Rattle.octets.specs.Octets.{between, ascii, letter}
 use Rattle.pairs.specs.Pairs.{isLead, isHeldLead, releasedOf}
-use Rattle.pairs.specs.declared.Decoded.{Decoded}
 use Rattle.pairs.specs.declared.Event.{Event}
 use Rattle.pairs.specs.declared.Event.the-variants.{Pending, Point, Two, Error}
 use Rattle.pairs.specs.declared.Held.{Held}

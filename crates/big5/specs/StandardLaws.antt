@@ -1,22 +1,18 @@
 -- Which pairs of bytes Big5 takes for what, both ways. Assumes nothing.
 use mathlib.Core.Path.{_≡_, refl, sym, ap, _∙_}
-use mathlib.Core.Bool.{Bool, true, false, cond, _||_}
+use mathlib.Core.Bool.{Bool, true, false, _||_}
 use mathlib.Core.List.{List, [], _∷_}
-use mathlib.Core.Logic.{_⊎_, inl, inr}
-use Prim.Native.Nat.{ℕ, _/_, _+_, _-_, _*_, _<_, _≤_}
-use native.Mathlib.Nat.{div-lt-iff-lt-mul}
-use native.Mathlib.Omega.{arith}
+use Prim.Native.Nat.{ℕ, _-_}
 use lib.Dec.{eqb}
 use lib.ListN.{getD}
-use borrow.Author.Tests.{eqb-true, eq-eqb, ne-eqb, leb-true}
+use borrow.Author.Tests.{eqb-true}
 use Rattle.laws.specs.Lists.{any, isIn}
-use Rattle.octets.specs.Octets.{between}
 use Rattle.pairs.specs.Pairs.{malformedOf}
 use Rattle.pairs.specs.Sequences.{Yields, Reads, yields-reads, reads-yields}
 use Rattle.pairs.specs.declared.Event.{Event}
 use Rattle.pairs.specs.declared.Event.the-variants.{Point, Two}
 use Rattle.big5.specs.Standard.{isTrail, pointerOf, isMapped, entryOf, yieldOf, pairOf}
-use Rattle.big5.specs.Ways.{yield-1133, yield-1135, yield-1164, yield-1166, yield-entry, pair-at}
+use Rattle.big5.specs.Ways.{yield-1133, yield-1135, yield-1164, yield-1166, pair-at}
 
 -- the pointers with two code points
 pub data Special : ℕ → ℕ → ℕ → Type 0 where

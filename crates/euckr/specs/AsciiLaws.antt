@@ -5,11 +5,10 @@ use mathlib.Core.Bool.{Bool, true, false, cond}
 use mathlib.Core.List.{List, [], _∷_, _++_}
 use Prim.Native.Nat.{ℕ, _<_}
 use native.Mathlib.Omega.{arith}
-use lib.Dec.{ltb, eqb}
-use lib.IntN.{ℤ, pos, +ℤ-idr}
-use borrow.Author.Tests.{lt-ltb, ltb-true, ne-eqb}
-use Rattle.laws.specs.Lists.{any, last}
-use Rattle.laws.specs.Memory.{all, all-first, all-rest, Quiet, after, quiet-run, quiet-last}
+use lib.IntN.{ℤ, pos}
+use borrow.Author.Tests.{lt-ltb, ltb-true}
+use Rattle.laws.specs.Lists.{last}
+use Rattle.laws.specs.Memory.{all, Quiet, after, quiet-run, quiet-last}
 use Rattle.laws.specs.Run.{live, run}
 use Rattle.octets.specs.Octets.{ascii, letter}
 use Rattle.pairs.specs.Pairs.{decoded}

@@ -1,15 +1,14 @@
 -- The edge lines on EUC-KR, for all lent data that meets the line's premise. Assumes nothing.
 use mathlib.Core.Path.{_≡_, refl, sym, ap, _∙_}
-use mathlib.Core.Bool.{Bool, true, false, cond, _&&_, _||_}
+use mathlib.Core.Bool.{Bool, true, false, cond, _&&_}
 use mathlib.Core.List.{List, [], _∷_}
-use Prim.Native.Nat.{ℕ, zero, suc, _+_, _≤_}
+use Prim.Native.Nat.{ℕ, zero, suc, _+_}
 use native.Mathlib.Omega.{arith}
-use lib.Dec.{ltb, eqb}
+use lib.Dec.{ltb}
 use borrow.Author.Tests.{ne-eqb}
 use lib.IntN.{ℤ, pos, _+ℤ_, +ℤ-idl, +ℤ-idr, +ℤ-assoc, +ℤ-comm}
 use lib.ListN.{getD}
-use Rattle.laws.specs.Run.{Out, none, live, plus, plus-plus, feed, run, run-plus}
-use Rattle.octets.specs.Octets.{ascii, letter}
+use Rattle.laws.specs.Run.{Out, live, plus, plus-plus, feed, run, run-plus}
 use Rattle.pairs.specs.Pairs.{isLead, decoded, firstOf}
 use Rattle.pairs.specs.PairsLaws.{lead-bounds}
 use Rattle.pairs.specs.Ranges.{inside, above}
@@ -17,7 +16,7 @@ use Rattle.pairs.specs.Sequences.{first-lead}
 use Rattle.pairs.specs.declared.Event.the-variants.{Pending, Point}
 use Rattle.pairs.specs.declared.Held.{Held}
 use Rattle.pairs.specs.declared.Held.the-variants.{Nothing, Score}
-use Rattle.euckr.specs.Standard.{isTrail, pointerOf, isMapped, pairOf, decodeOf}
+use Rattle.euckr.specs.Standard.{isTrail, pointerOf, isMapped, decodeOf}
 use Rattle.euckr.specs.StandardLaws.{is-mapped}
 use Rattle.euckr.specs.Scoring.{extraOf, isEuc, isHangul, hangulAfter, longOf, scored, holdsOf, aroundOf, innerOf, outerOf, hangulOf, unitOf, extensionOf, after, strayOf, errorOf, freshOf, Lent, lent, stepOf}
 use Rattle.euckr.specs.Ways.{range-true, step-on}

@@ -1,10 +1,10 @@
 -- Laws of the EUC-KR machine: what a record holds is kept, a byte adds at most five terms, the tests decide, a run joins. Assumes nothing.
-use mathlib.Core.Path.{_≡_, refl, sym, ap, _∙_}
+use mathlib.Core.Path.{_≡_}
 use mathlib.Core.Bool.{Bool, true, false, cond, _&&_}
 use mathlib.Core.List.{List, _++_}
-use Prim.Native.Nat.{ℕ, _+_, _*_, _≤_}
+use Prim.Native.Nat.{ℕ, _+_, _≤_}
 use native.Mathlib.Omega.{arith}
-use lib.Dec.{leb, ltb, eqb}
+use lib.Dec.{leb, eqb}
 use lib.IntN.{ℤ, pos, natAbs, _+ℤ_}
 use lib.ListN.{length}
 use borrow.Author.Tests.{leb-true, le-leb, eqb-true, eq-eqb}
@@ -12,20 +12,19 @@ use Rattle.laws.specs.Memory.{and-true}
 use Rattle.laws.specs.Run.{Out, none, live, run, run-append, Within}
 use Rattle.laws.specs.Sizes.{abs-add}
 use Rattle.octets.specs.Octets.{ascii, letter}
-use Rattle.pairs.specs.Pairs.{isLeadOrNone, releasedOf, SmallHeld, smallHeldB}
+use Rattle.pairs.specs.Pairs.{isLeadOrNone, SmallHeld, smallHeldB}
 use Rattle.pairs.specs.PairsLaws.{handler-lead, held-true, true-held}
 use Rattle.pairs.specs.declared.Event.{Event}
 use Rattle.pairs.specs.declared.Event.the-variants.{Pending, Point, Two, Error}
 use Rattle.pairs.specs.declared.Held.the-variants.{Nothing, Score}
 use Rattle.weights.specs.Weights.{weightCount, term, perByte, limit}
 use Rattle.euckr.specs.Standard.{entries, pairOf, decodeOf}
-use Rattle.euckr.specs.Scoring.{scaleOf, extraCount, extraOf, isEuc, isHangul, isHanja, scored, holdsOf, letterOf, aroundOf, innerOf, outerOf, hangulOf, hanjaOf, otherOf, unitOf, isUserPair, isMacSymbol, isLone, extends, extensionOf, after, pendingOf, strayOf, errorOf, onEvent, Lent, lent, stepOf}
+use Rattle.euckr.specs.Scoring.{scaleOf, extraCount, extraOf, isEuc, isHangul, isHanja, scored, holdsOf, letterOf, aroundOf, innerOf, outerOf, hangulOf, hanjaOf, otherOf, unitOf, isUserPair, isMacSymbol, isLone, extends, extensionOf, after, strayOf, errorOf, onEvent, Lent, lent, stepOf}
 use Rattle.euckr.specs.EucKr.{Sound, soundB, Small, Slight, ranAs, readyB, Ready, ranOf}
-use Rattle.euckr.specs.Ways.{gain-pick, letter-small, inner-small, outer-small, hangul-small, hanja-small, other-small}
+use Rattle.euckr.specs.Ways.{gain-pick, letter-small, hangul-small, hanja-small, other-small}
 use Rattle.euckr.specs.declared.EucKr.{EucKr}
 use Rattle.euckr.specs.declared.LatinKorean.{LatinKorean}
 use Rattle.euckr.specs.declared.LatinKorean.the-variants.{AsciiLetter, Hangul, Hanja, Other}
-use Rattle.euckr.specs.declared.Ran.{Ran}
 use Rattle.euckr.specs.declared.Ran.the-variants.{Unfit}
 use Rattle.euckr.specs.declared.Scale.{Scale}
 use Rattle.euckr.specs.declared.Scored.{Scored}

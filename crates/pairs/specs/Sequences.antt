@@ -2,16 +2,15 @@
 -- says which leads and trails yield what. Both ways: the decoder reads a sequence and yields an event exactly if the sequence
 -- is an ASCII byte, a lone byte that is an error, or a pair of which Pair holds. Assumes nothing.
 use mathlib.Core.Path.{_≡_, refl, sym, ap, _∙_}
-use mathlib.Core.Bool.{Bool, true, false, cond}
+use mathlib.Core.Bool.{Bool, true, false}
 use mathlib.Core.List.{List, [], _∷_}
-use Prim.Native.Nat.{ℕ, _≤_}
+use Prim.Native.Nat.{ℕ}
 use native.Mathlib.Omega.{arith}
 use lib.Dec.{eqb}
-use borrow.Author.Tests.{eqb-true, ltb-true, ne-eqb, lt-leb, le-ltb}
+use borrow.Author.Tests.{ne-eqb, le-ltb}
 use Rattle.octets.specs.Octets.{ascii}
 use Rattle.pairs.specs.Pairs.{isLead, decoded, firstOf, handlerOf}
 use Rattle.pairs.specs.PairsLaws.{lead-bounds}
-use Rattle.pairs.specs.Ranges.{below}
 use Rattle.pairs.specs.declared.Decoded.{Decoded}
 use Rattle.pairs.specs.declared.Event.{Event}
 use Rattle.pairs.specs.declared.Event.the-variants.{Pending, Point, Error}

@@ -1,9 +1,5 @@
 -- `decode` meets its contract. Assumes nothing.
-use mathlib.Core.Path.{_≡_, sym, ap, _∙_}
-use mathlib.Core.Bool.{true, false}
-use native.Mathlib.Omega.{arith}
 use borrow.Author.Tests.{eq-eqb, ne-eqb}
-use Rattle.pairs.specs.Pairs.{decoded}
 use Rattle.pairs.specs.PairsLaws.{lead-least, lead-most}
 use Rattle.big5.specs.Standard.{decodeOf}
 use borrow.Author.Needs.{needs}

@@ -1,6 +1,6 @@
 -- `pair` meets its contract. Assumes nothing.
 use mathlib.Core.Path.{_≡_, sym, _∙_}
-use mathlib.Core.Bool.{true, false}
+use mathlib.Core.Bool.{false}
 use native.Mathlib.Omega.{arith}
 use Rattle.big5.specs.Standard.{isTrail, pairOf}
 use Rattle.big5.specs.Ways.{pair-at, yield-1133, yield-1135, yield-1164, yield-1166, yield-entry}

@@ -1,6 +1,6 @@
 -- `weight` meets its contract. Assumes nothing.
-use Prim.Native.Nat.{ℕ, _-_}
-use lib.IntN.{ℤ, pos}
+use Prim.Native.Nat.{_-_}
+use lib.IntN.{pos}
 use lib.ListN.{getD}
 use native.Mathlib.Omega.{arith}
 use mir.Syntax.{w32}

@@ -1,5 +1,5 @@
 -- `Big5::step` meets its contract. Assumes nothing.
-use mathlib.Core.Path.{_≡_, sym, ap, _∙_}
+use mathlib.Core.Path.{ap, _∙_}
 use native.Mathlib.Omega.{arith}
 use Rattle.laws.specs.Sizes.{thru64}
 use Rattle.weights.specs.Weights.{term}

@@ -1,8 +1,6 @@
 -- `Scale::beside` meets its contract. Assumes nothing.
-use mathlib.Core.Path.{_≡_, sym, ap, _∙_}
 use mir.Syntax.{w64}
 use Rattle.laws.specs.Sizes.{thru}
-use Rattle.big5.specs.Scoring.{besideOf}
 use borrow.Author.Needs.{needs}
 use Rattle.big5.proofs.Scale.beside.Statement.{statement}
 use Rattle.big5.proofs.Scale.beside.Tie as tie

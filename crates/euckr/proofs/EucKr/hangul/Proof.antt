@@ -1,6 +1,5 @@
 -- `EucKr::hangul` meets its contract. Assumes nothing.
-use mathlib.Core.Path.{_≡_, sym, ap, _∙_}
-use mathlib.Core.Bool.{true, false}
+use mathlib.Core.Path.{sym, ap, _∙_}
 use mathlib.Core.Logic.{inl, inr, ⊎-elim}
 use Rattle.pairs.specs.Sums.{kept, read}
 use Rattle.euckr.specs.Scoring.{innerOf}

@@ -1,5 +1,5 @@
 -- `EucKr::step` meets its contract. Assumes nothing.
-use mathlib.Core.Path.{_≡_, sym, ap, _∙_}
+use mathlib.Core.Path.{ap, _∙_}
 use native.Mathlib.Omega.{arith}
 use Rattle.euckr.specs.Scoring.{after as afterOf, lent}
 use Rattle.euckr.specs.Ways.{step-on}

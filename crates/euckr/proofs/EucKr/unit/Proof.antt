@@ -3,7 +3,6 @@ use mathlib.Core.Path.{_≡_, sym, ap, _∙_}
 use mathlib.Core.Bool.{true, false}
 use native.Mathlib.Omega.{arith}
 use borrow.Author.Tests.{lt-ltb, le-ltb}
-use lib.IntN.{pos}
 use Rattle.laws.specs.Sizes.{thru64}
 use Rattle.weights.specs.Weights.{term}
 use Rattle.octets.specs.Octets.{letter}

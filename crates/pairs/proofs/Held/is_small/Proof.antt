@@ -1,7 +1,4 @@
 -- `Held::is_small` meets its contract. Assumes nothing.
-use mathlib.Core.Path.{_≡_, sym, ap, _∙_}
-use lib.Dec.{leb}
-use lib.IntN.{natAbs}
 use borrow.Author.Needs.{needs}
 use Rattle.pairs.specs.Pairs.{smallHeldB}
 use Rattle.pairs.specs.Sums.{read, size-neg, size-pos}

@@ -1,5 +1,5 @@
 -- `Held::released` meets its contract. Assumes nothing.
-use mathlib.Core.Path.{_≡_, sym, ap, _∙_}
+use mathlib.Core.Path.{sym, ap, _∙_}
 use Rattle.pairs.specs.Pairs.{releasedOf}
 use Rattle.pairs.specs.Sums.{read}
 use borrow.Author.Needs.{needs}
