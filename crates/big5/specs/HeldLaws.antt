@@ -7,7 +7,7 @@ use Prim.Native.Nat.{ℕ}
 use native.Mathlib.Omega.{arith}
 use lib.Dec.{ltb, eqb}
 use lib.IntN.{ℤ, pos, _+ℤ_}
-use borrow.Author.Tests.{not-true}
+use borrow.Author.Tests.{not-true, eq-eqb}
 use Rattle.laws.specs.Memory.{and-true}
 use Rattle.laws.specs.Run.{Out, none, live}
 use Rattle.octets.specs.Octets.{between, ascii, letter}
@@ -17,6 +17,7 @@ use Rattle.pairs.specs.declared.Event.the-variants.{Pending, Point, Two, Error}
 use Rattle.pairs.specs.declared.Held.the-variants.{Nothing, Score}
 use Rattle.big5.specs.Standard.{decodeOf}
 use Rattle.big5.specs.Scoring.{isHanzi, isDistinct, isCj, besideOf, scored, holdsOf, hanziWeight, letterOf, hanziOf, otherOf, unitOf, pointOf, unmappedOf, extensionOf, isPair, extends, after, strayOf, errorOf, onEvent, Lent, stepOf}
+use Rattle.big5.specs.Big5.{closeOf}
 use Rattle.big5.specs.declared.Big5.{Big5}
 use Rattle.big5.specs.declared.LatinCj.{LatinCj}
 use Rattle.big5.specs.declared.LatinCj.the-variants.{AsciiLetter, Cj, Other}
@@ -118,3 +119,7 @@ held-why t m b next g k e h =
     let d = decodeOf (t .index) (m .lead) b in
     let x : WhyOut (t .scale) m (d .event) (live next g) = rw e at (why-event (t .scale) m (d .lead) b (d .event)) in
     x k h
+
+-- at the close it counts nothing, and stays in the record
+pub held-at-close : (m : Big5) → m .lead ≡ 0 → closeOf m ≡ live m (pos 0)
+held-at-close m e = rw (eq-eqb (m .lead) 0 e)

@@ -2,12 +2,15 @@
 use mathlib.Core.Path.{_≡_, refl, sym, ap, _∙_}
 use mathlib.Core.Bool.{Bool, true, false, _||_}
 use mathlib.Core.List.{List, [], _∷_}
-use Prim.Native.Nat.{ℕ, _-_}
+use Prim.Native.Nat.{ℕ, _+_, _-_, _/_, _≤_}
+use native.Mathlib.Omega.{arith}
 use lib.Dec.{eqb}
 use lib.ListN.{getD}
 use borrow.Author.Tests.{eqb-true}
 use Rattle.laws.specs.Lists.{any, isIn}
+use Rattle.octets.specs.Octets.{between}
 use Rattle.pairs.specs.Pairs.{malformedOf}
+use Rattle.pairs.specs.Ranges.{range-true}
 use Rattle.pairs.specs.Sequences.{Yields, Reads, yields-reads, reads-yields}
 use Rattle.pairs.specs.declared.Event.{Event}
 use Rattle.pairs.specs.declared.Event.the-variants.{Point, Two}
@@ -106,3 +109,14 @@ module _ (index : List ℕ) where
 
   pub decoder-yields : (bs : List ℕ) (e : Event) → Reads (pairOf index) bs e → Yields (Pair index) bs e
   decoder-yields bs e r = reads-yields (pairOf index) (Pair index) pair-all bs e r
+
+-- ---- a code point above FFFF is a pair of units: what the index yields there begins with a unit of its own, neither CA nor EA
+abbrev pub firstUnit : ℕ → ℕ
+firstUnit point = 0xD800 + (point - 0x10000) / 0x400
+
+pub pair-first : (point : ℕ) → isMapped point ≡ true → 0x10000 ≤ point → (0xD840 ≤ firstUnit point) × (firstUnit point ≤ 0xD87F)
+pair-first point e h = plane-two (between 0x80 0xD7FF point) (between 0xE000 0xFFFF point) refl refl e where
+  plane-two : (a b : Bool) → between 0x80 0xD7FF point ≡ a → between 0xE000 0xFFFF point ≡ b → (a || (b || between 0x20000 0x2FFFF point)) ≡ true → (0xD840 ≤ firstUnit point) × (firstUnit point ≤ 0xD87F)
+  plane-two true b p q r = let x = range-true 0x80 0xD7FF point p in absurd (omega arith)
+  plane-two false true p q r = let x = range-true 0xE000 0xFFFF point q in absurd (omega arith)
+  plane-two false false p q r = let x = range-true 0x20000 0x2FFFF point r in (omega arith, omega arith)

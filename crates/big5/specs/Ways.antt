@@ -5,15 +5,15 @@ use mathlib.Core.List.{List}
 use mathlib.Core.Logic.{_⊎_, inl, inr}
 use Prim.Native.Nat.{ℕ, _+_, _<_, _≤_}
 use native.Mathlib.Omega.{arith}
-use lib.Dec.{leb, eqb}
+use lib.Dec.{eqb}
 use lib.IntN.{ℤ, natAbs, _+ℤ_}
-use borrow.Author.Tests.{leb-true, eq-eqb, ne-eqb, lt-ltb, le-ltb}
+use borrow.Author.Tests.{eq-eqb, ne-eqb, lt-ltb, le-ltb}
 use mir.Syntax.{w64}
 use mir.Val.{SFits}
-use Rattle.laws.specs.Memory.{and-true}
 use Rattle.laws.specs.Run.{none}
 use Rattle.octets.specs.Octets.{between}
 use Rattle.pairs.specs.Pairs.{releasedOf, SmallHeld, malformedOf}
+use Rattle.pairs.specs.Ranges.{range-true}
 use Rattle.pairs.specs.Sums.{kept, sum-fits, sum-read, sum3-fits, sum3-read}
 use Rattle.pairs.specs.declared.Decoded.{Decoded}
 use Rattle.pairs.specs.declared.Event.{Event}
@@ -36,8 +36,8 @@ either false b e = inr e
 pub trail-cases : (b : ℕ) → isTrail b ≡ true → ((0x40 ≤ b) × (b ≤ 0x7E)) ⊎ ((0xA1 ≤ b) × (b ≤ 0xFE))
 trail-cases b e = cases (either (between 0x40 0x7E b) (between 0xA1 0xFE b) e) where
   cases : (between 0x40 0x7E b ≡ true) ⊎ (between 0xA1 0xFE b ≡ true) → ((0x40 ≤ b) × (b ≤ 0x7E)) ⊎ ((0xA1 ≤ b) × (b ≤ 0xFE))
-  cases (inl t) = let h = and-true (leb 0x40 b) (leb b 0x7E) t in inl (leb-true 0x40 b (h .0), leb-true b 0x7E (h .1))
-  cases (inr t) = let h = and-true (leb 0xA1 b) (leb b 0xFE) t in inr (leb-true 0xA1 b (h .0), leb-true b 0xFE (h .1))
+  cases (inl t) = inl (range-true 0x40 0x7E b t)
+  cases (inr t) = inr (range-true 0xA1 0xFE b t)
 
 -- ---- sizes
 pub pick-small : (t : Bool) (a b : ℤ) (n : ℕ) → natAbs a ≤ n → natAbs b ≤ n → natAbs (cond t a b) ≤ n

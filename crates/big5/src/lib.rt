@@ -260,9 +260,9 @@ impl Big5 {
     {
         let prev = self.prev;
         match prev {
-            LatinCj::AsciiLetter => octets::problematic_lead(self.prev_byte),
+            LatinCj::AsciiLetter => pairs::is_held_lead(self.prev_byte),
             LatinCj::Cj => false,
-            LatinCj::Other => octets::problematic_lead(self.prev_byte),
+            LatinCj::Other => pairs::is_held_lead(self.prev_byte),
         }
     }
 

@@ -19,7 +19,8 @@ use Rattle.pairs.specs.declared.Held.the-variants.{Nothing, Score}
 use Rattle.euckr.specs.Standard.{isTrail, pointerOf, isMapped, decodeOf}
 use Rattle.euckr.specs.StandardLaws.{is-mapped}
 use Rattle.euckr.specs.Scoring.{extraOf, isEuc, isHangul, hangulAfter, longOf, scored, holdsOf, aroundOf, innerOf, outerOf, hangulOf, unitOf, extensionOf, after, strayOf, errorOf, freshOf, Lent, lent, stepOf}
-use Rattle.euckr.specs.Ways.{range-true, step-on}
+use Rattle.pairs.specs.Ranges.{range-true}
+use Rattle.euckr.specs.Ways.{step-on}
 use Rattle.euckr.specs.declared.EucKr.{EucKr}
 use Rattle.euckr.specs.declared.LatinKorean.{LatinKorean}
 use Rattle.euckr.specs.declared.LatinKorean.the-variants.{AsciiLetter, Hangul, Hanja, Other}

@@ -8,7 +8,7 @@ use Prim.Native.Nat.{ℕ, _+_}
 use native.Mathlib.Omega.{arith}
 use lib.Dec.{eqb}
 use lib.IntN.{ℤ, pos, _+ℤ_}
-use borrow.Author.Tests.{not-true}
+use borrow.Author.Tests.{not-true, eq-eqb}
 use Rattle.laws.specs.Memory.{and-true}
 use Rattle.laws.specs.Run.{Out, none, live}
 use Rattle.octets.specs.Octets.{ascii, letter}
@@ -18,6 +18,7 @@ use Rattle.pairs.specs.declared.Event.the-variants.{Pending, Point, Two, Error}
 use Rattle.pairs.specs.declared.Held.the-variants.{Nothing, Score}
 use Rattle.euckr.specs.Standard.{decodeOf}
 use Rattle.euckr.specs.Scoring.{extraOf, isEuc, isHangul, isHanja, isAfterHangul, scored, holdsOf, letterOf, aroundOf, innerOf, outerOf, hangulOf, hanjaOf, otherOf, unitOf, isUserPair, isMacSymbol, isLone, extends, extensionOf, after, strayOf, errorOf, onEvent, Lent, stepOf}
+use Rattle.euckr.specs.EucKr.{closeOf}
 use Rattle.euckr.specs.declared.EucKr.{EucKr}
 use Rattle.euckr.specs.declared.LatinKorean.{LatinKorean}
 use Rattle.euckr.specs.declared.LatinKorean.the-variants.{AsciiLetter, Hangul, Hanja, Other}
@@ -116,3 +117,7 @@ held-why t m b next g k e h =
     let d = decodeOf (t .index) (m .lead) b in
     let x : WhyOut (t .scale) m (d .event) (live next g) = rw e at (why-event (t .scale) m (t .extras) (d .lead) b (d .event)) in
     x k h
+
+-- at the close it counts nothing, and stays in the record
+pub held-at-close : (m : EucKr) → m .lead ≡ 0 → closeOf m ≡ live m (pos 0)
+held-at-close m e = rw (eq-eqb (m .lead) 0 e)

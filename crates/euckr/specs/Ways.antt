@@ -5,15 +5,13 @@ use mathlib.Core.List.{List}
 use mathlib.Core.Logic.{_⊎_, inl, inr}
 use Prim.Native.Nat.{ℕ, _+_, _<_, _≤_}
 use native.Mathlib.Omega.{arith}
-use lib.Dec.{ltb, leb, eqb}
+use lib.Dec.{ltb, eqb}
 use lib.IntN.{ℤ, pos, natAbs, _+ℤ_}
 use lib.ListN.{getD}
-use borrow.Author.Tests.{leb-true, eq-eqb, ne-eqb, lt-ltb, le-ltb}
+use borrow.Author.Tests.{eq-eqb, ne-eqb, lt-ltb, le-ltb}
 use mir.Syntax.{w64}
 use mir.Val.{SFits}
-use Rattle.laws.specs.Memory.{and-true}
 use Rattle.laws.specs.Run.{none}
-use Rattle.octets.specs.Octets.{between}
 use Rattle.pairs.specs.Pairs.{releasedOf, SmallHeld, malformedOf}
 use Rattle.pairs.specs.Sums.{kept, sum-small, sum-fits, sum-read, sum3-small, sum3-fits, sum3-read, sum4-small, sum4-fits, sum4-read}
 use Rattle.pairs.specs.declared.Decoded.{Decoded}
@@ -29,9 +27,6 @@ use Rattle.euckr.specs.declared.LatinKorean.{LatinKorean}
 use Rattle.euckr.specs.declared.LatinKorean.the-variants.{AsciiLetter, Hangul, Hanja, Other}
 use Rattle.euckr.specs.declared.Scale.{Scale}
 use Rattle.euckr.specs.declared.Scored.{Scored}
-
-pub range-true : (low high x : ℕ) → between low high x ≡ true → (low ≤ x) × (x ≤ high)
-range-true low high x e = let h = and-true (leb low x) (leb x high) e in (leb-true low x (h .0), leb-true x high (h .1))
 
 -- ---- sizes
 pick-small : (t : Bool) (a b : ℤ) (n : ℕ) → natAbs a ≤ n → natAbs b ≤ n → natAbs (cond t a b) ≤ n

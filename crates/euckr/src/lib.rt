@@ -286,10 +286,10 @@ impl EucKr {
     {
         let prev = self.prev;
         match prev {
-            LatinKorean::AsciiLetter => octets::problematic_lead(self.prev_byte),
+            LatinKorean::AsciiLetter => pairs::is_held_lead(self.prev_byte),
             LatinKorean::Hangul => false,
-            LatinKorean::Hanja => octets::problematic_lead(self.prev_byte),
-            LatinKorean::Other => octets::problematic_lead(self.prev_byte),
+            LatinKorean::Hanja => pairs::is_held_lead(self.prev_byte),
+            LatinKorean::Other => pairs::is_held_lead(self.prev_byte),
         }
     }
 

@@ -9,6 +9,8 @@ use Rattle.pairs.proofs.malformed.Kinds as malformed-kinds
 use Rattle.pairs.proofs.malformed.Reads as malformed-reads
 use Rattle.pairs.proofs.first.Kinds as first-kinds
 use Rattle.pairs.proofs.first.Reads as first-reads
+use Rattle.pairs.proofs.is_held_lead.Kinds as is-held-lead-kinds
+use Rattle.pairs.proofs.is_held_lead.Reads as is-held-lead-reads
 use Rattle.pairs.proofs.is_letter.Kinds as is-letter-kinds
 use Rattle.pairs.proofs.is_letter.Reads as is-letter-reads
 use Rattle.pairs.proofs.Held.released.Kinds as released-kinds
@@ -27,6 +29,9 @@ malformed = record { total = λ κs a. tt; one = λ κs a z z′ w w′ p q. (sa
 
 pub first : Determined 0 first-kinds.ps first-kinds.r first-reads.Asked first-reads.Learnt
 first = record { total = λ κs a. tt; one = λ κs a z z′ w w′ p q. (same p q, refl) }
+
+pub is-held-lead : Determined 0 is-held-lead-kinds.ps is-held-lead-kinds.r is-held-lead-reads.Asked is-held-lead-reads.Learnt
+is-held-lead = record { total = λ κs a. tt; one = λ κs a z z′ w w′ p q. (same p q, refl) }
 
 pub is-letter : Determined 0 is-letter-kinds.ps is-letter-kinds.r is-letter-reads.Asked is-letter-reads.Learnt
 is-letter = record { total = λ κs a. tt; one = λ κs a z z′ w w′ p q. (same p q, refl) }

@@ -3,11 +3,11 @@ use mathlib.Core.Path.{_≡_, refl}
 use mathlib.Core.Bool.{Bool, true, false, cond, _||_}
 use Prim.Native.Nat.{ℕ, _≤_}
 use native.Mathlib.Omega.{arith}
-use lib.Dec.{leb, eqb}
+use lib.Dec.{eqb}
 use borrow.Author.Tests.{leb-true, le-leb, eqb-true, ne-eqb}
-use Rattle.laws.specs.Memory.{and-true}
 use Rattle.octets.specs.Octets.{ascii}
 use Rattle.pairs.specs.Pairs.{isLead, isLeadOrNone, decoded, firstOf, handlerOf, SmallHeld, smallHeldB}
+use Rattle.pairs.specs.Ranges.{range-true}
 use Rattle.pairs.specs.declared.Decoded.{Decoded}
 use Rattle.pairs.specs.declared.Event.{Event}
 use Rattle.pairs.specs.declared.Event.the-variants.{Pending, Point, Error}
@@ -15,7 +15,7 @@ use Rattle.pairs.specs.declared.Held.{Held}
 
 -- ---- what a decoder can hold
 pub lead-bounds : (b : ℕ) → isLead b ≡ true → (0x81 ≤ b) × (b ≤ 0xFE)
-lead-bounds b e = let h = and-true (leb 0x81 b) (leb b 0xFE) e in (leb-true 0x81 b (h .0), leb-true b 0xFE (h .1))
+lead-bounds b e = range-true 0x81 0xFE b e
 
 pub lead-least : (lead : ℕ) → isLeadOrNone lead ≡ true → (lead ≡ 0 → ⊥) → 0x81 ≤ lead
 lead-least lead e h = lead-bounds lead (rw (ne-eqb lead 0 h) at e) .0

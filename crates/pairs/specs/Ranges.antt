@@ -3,7 +3,8 @@ use mathlib.Core.Path.{_≡_, refl}
 use mathlib.Core.Bool.{Bool, true, false, _&&_, _||_}
 use Prim.Native.Nat.{ℕ, suc, _<_, _≤_}
 use lib.Dec.{ltb, leb, leb·suc-suc}
-use borrow.Author.Tests.{le-leb, lt-leb}
+use borrow.Author.Tests.{le-leb, lt-leb, leb-true}
+use Rattle.laws.specs.Memory.{and-true}
 use Rattle.octets.specs.Octets.{between}
 
 and-no : (t : Bool) → (t && false) ≡ false
@@ -31,3 +32,7 @@ module _ (low high x : ℕ) where
   -- the same where the test of another range was passed before
   pub up-to-or : (t : Bool) → low ≤ x → t ≡ false → ltb x (suc high) ≡ (between low high x || t)
   up-to-or t p e = rw (e, le-leb low x p, or-no) (leb·suc-suc x high)
+
+  -- what a range says
+  pub range-true : between low high x ≡ true → (low ≤ x) × (x ≤ high)
+  range-true e = let h = and-true (leb low x) (leb x high) e in (leb-true low x (h .0), leb-true x high (h .1))

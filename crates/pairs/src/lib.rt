@@ -2,7 +2,7 @@
 ghost use mathlib.Core.Path.{_≡_};
 ghost use Prim.Native.Nat.{_≤_};
 ghost use Rattle.octets.specs.Octets.{letter};
-ghost use Rattle.pairs.specs.Pairs.{isLead, isLeadOrNone, malformedOf, firstOf, releasedOf, smallHeldB};
+ghost use Rattle.pairs.specs.Pairs.{isLead, isLeadOrNone, malformedOf, firstOf, isHeldLead, releasedOf, smallHeldB};
 
 // What a decoder yields at a byte: nothing yet, one code point, two, or an error of so many bytes.
 pub enum Event {
@@ -80,6 +80,13 @@ pub fn first(b: u8) -> Decoded
         lead: 0,
         event: Event::Error(1),
     }
+}
+
+// Whether a score is held after this byte.
+pub fn is_held_lead(b: u8) -> bool
+    ensures { λ r. ⌜ r ≡ isHeldLead b ⌝ }
+{
+    octets::problematic_lead(b)
 }
 
 pub fn is_letter(u: u32) -> bool

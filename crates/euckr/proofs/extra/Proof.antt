@@ -6,7 +6,7 @@ use native.Mathlib.Omega.{arith}
 use mir.Syntax.{w16}
 use mir.Val.{SFits}
 use Rattle.laws.specs.Sizes.{wide16-fits, wide16-read, abs-fits}
-use Rattle.euckr.specs.Ways.{range-true}
+use Rattle.pairs.specs.Ranges.{range-true}
 use Rattle.euckr.specs.Scoring.{extraOf}
 use borrow.Author.Needs.{needs}
 use Rattle.euckr.proofs.extra.Statement.{statement}

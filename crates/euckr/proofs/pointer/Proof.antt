@@ -1,7 +1,7 @@
 -- `pointer` meets its contract. Assumes nothing.
 use mathlib.Core.Path.{refl}
 use native.Mathlib.Omega.{arith}
-use Rattle.euckr.specs.Ways.{range-true}
+use Rattle.pairs.specs.Ranges.{range-true}
 use borrow.Author.Needs.{needs}
 use Rattle.euckr.proofs.pointer.Statement.{statement}
 use Rattle.euckr.proofs.pointer.Tie as tie
