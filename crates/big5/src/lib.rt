@@ -191,9 +191,7 @@ fn is_distinct(u: u32) -> bool
     }
 }
 
-fn weight(weights: &[i32], k: usize) -> i64
-    requires { ⌜ k < length (now weights) ⌝ }
-    ensures { λ r. ⌜ r ≡ getD (now (weights .entry)) k (pos 0) ⌝ }
+   ensures { λ r. ⌜ r ≡ getD (now (weights .entry)) k (pos 0) ⌝ }
     ensures { λ r. ⌜ natAbs r ≤ term ⌝ }
 {
     weights[k] as i64
@@ -201,18 +199,17 @@ fn weight(weights: &[i32], k: usize) -> i64
 
 impl Scale {
     fn read(weights: &[i32]) -> Scale
-        requires { ⌜ length (now weights) ≡ weightCount ⌝ }
         ensures { λ r. ⌜ r ≡ scaleOf (now (weights .entry)) ⌝ }
         ensures { λ r. ⌜ Small r ⌝ }
     {
         Scale {
-            adjacency: weight(weights, weights::CJK_LATIN_ADJACENCY),
-            punctuation: weight(weights, weights::CJ_PUNCTUATION),
-            other: weight(weights, weights::CJK_OTHER),
-            level1: weight(weights, weights::BIG5_LEVEL_1),
-            hanzi: weight(weights, weights::BIG5_OTHER),
-            pua: weight(weights, weights::BIG5_PUA),
-            extension: weight(weights, weights::BIG5_EXTENSION),
+            adjacency: pairs::weight(weights, weights::CJK_LATIN_ADJACENCY),
+            punctuation: pairs::weight(weights, weights::CJ_PUNCTUATION),
+            other: pairs::weight(weights, weights::CJK_OTHER),
+            level1: pairs::weight(weights, weights::BIG5_LEVEL_1),
+            hanzi: pairs::weight(weights, weights::BIG5_OTHER),
+            pua: pairs::weight(weights, weights::BIG5_PUA),
+            extension: pairs::weight(weights, weights::BIG5_EXTENSION),
         }
     }
 

@@ -177,9 +177,7 @@ fn is_hanja(u: u32) -> bool
     u < 0xFA0C
 }
 
-fn weight(weights: &[i32], k: usize) -> i64
-    requires { ⌜ k < length (now weights) ⌝ }
-    ensures { λ r. ⌜ r ≡ getD (now (weights .entry)) k (pos 0) ⌝ }
+   ensures { λ r. ⌜ r ≡ getD (now (weights .entry)) k (pos 0) ⌝ }
     ensures { λ r. ⌜ natAbs r ≤ term ⌝ }
 {
     weights[k] as i64
@@ -197,21 +195,20 @@ fn extra(extras: &[i16], u: u32) -> i64
 
 impl Scale {
     fn read(weights: &[i32]) -> Scale
-        requires { ⌜ length (now weights) ≡ weightCount ⌝ }
         ensures { λ r. ⌜ r ≡ scaleOf (now (weights .entry)) ⌝ }
         ensures { λ r. ⌜ Small r ⌝ }
     {
         Scale {
-            adjacency: weight(weights, weights::CJK_LATIN_ADJACENCY),
-            other: weight(weights, weights::CJK_OTHER),
-            hangul: weight(weights, weights::EUC_HANGUL),
-            outer: weight(weights, weights::NON_EUC_HANGUL),
-            hanja: weight(weights, weights::HANJA),
-            mixed: weight(weights, weights::HANJA_AFTER_HANGUL),
-            pua: weight(weights, weights::EUC_KR_PUA),
-            mac: weight(weights, weights::MAC_KOREAN),
-            extension: weight(weights, weights::EUC_KR_EXTENSION),
-            long: weight(weights, weights::LONG_WORD),
+            adjacency: pairs::weight(weights, weights::CJK_LATIN_ADJACENCY),
+            other: pairs::weight(weights, weights::CJK_OTHER),
+            hangul: pairs::weight(weights, weights::EUC_HANGUL),
+            outer: pairs::weight(weights, weights::NON_EUC_HANGUL),
+            hanja: pairs::weight(weights, weights::HANJA),
+            mixed: pairs::weight(weights, weights::HANJA_AFTER_HANGUL),
+            pua: pairs::weight(weights, weights::EUC_KR_PUA),
+            mac: pairs::weight(weights, weights::MAC_KOREAN),
+            extension: pairs::weight(weights, weights::EUC_KR_EXTENSION),
+            long: pairs::weight(weights, weights::LONG_WORD),
         }
     }
 

@@ -20,7 +20,7 @@ is-ready-requires : tie.Need-is-ready-requires
 is-ready-requires c κs = search needs
 
 read-requires : tie.Need-read-requires
-read-requires c κs = ready (c .before) (c .if1 .taken) .weights-length
+read-requires c κs = search needs
 
 go-requires : tie.Need-go-requires
 go-requires c κs =
