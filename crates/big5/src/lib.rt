@@ -191,12 +191,6 @@ fn is_distinct(u: u32) -> bool
     }
 }
 
-   ensures { λ r. ⌜ r ≡ getD (now (weights .entry)) k (pos 0) ⌝ }
-    ensures { λ r. ⌜ natAbs r ≤ term ⌝ }
-{
-    weights[k] as i64
-}
-
 impl Scale {
     fn read(weights: &[i32]) -> Scale
         ensures { λ r. ⌜ r ≡ scaleOf (now (weights .entry)) ⌝ }

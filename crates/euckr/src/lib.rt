@@ -177,12 +177,6 @@ fn is_hanja(u: u32) -> bool
     u < 0xFA0C
 }
 
-   ensures { λ r. ⌜ r ≡ getD (now (weights .entry)) k (pos 0) ⌝ }
-    ensures { λ r. ⌜ natAbs r ≤ term ⌝ }
-{
-    weights[k] as i64
-}
-
 // The extra of a Hangul.
 fn extra(extras: &[i16], u: u32) -> i64
     requires { ⌜ length (now extras) ≡ extraCount ⌝ }
