@@ -158,7 +158,7 @@ pub fn decoded(lead: u8, b: u8, index: &[u32]) -> Reply
     ensures { λ r. ⌜ r ≡ replyOf (now (index .entry)) lead b ⌝ }
 {
     if pairs::is_lead_or_none(lead) {
-        if index.len() == 19782 {
+        if index.len() == Big5::INDEX {
             return Reply::Byte(decode(lead, b, index));
         }
     }
@@ -232,7 +232,11 @@ impl Scale {
 }
 
 impl Big5 {
+    // How many entries its index has.
     pub const INDEX: usize = 19782;
+
+    // How many bytes a part has at most.
+    pub const LIMIT: usize = 268435456;
 
     pub fn fresh() -> Big5
         ensures { λ r. ⌜ r ≡ freshOf ⌝ }
@@ -568,9 +572,9 @@ fn is_ready(m: Big5, part: &[u8], index: &[u32], weights: &[i32]) -> bool
     ensures { λ r. ⌜ r ≡ readyB (now (index .entry)) (now (weights .entry)) m (now (part .entry)) ⌝ }
 {
     if m.is_sound_for(268435456) {
-        if part.len() <= 268435456 {
-            if index.len() == 19782 {
-                return weights.len() == 17;
+        if part.len() <= Big5::LIMIT {
+            if index.len() == Big5::INDEX {
+                return weights.len() == weights::COUNT;
             }
         }
     }

@@ -136,7 +136,7 @@ pub fn decoded(lead: u8, b: u8, index: &[u32]) -> Reply
     ensures { λ r. ⌜ r ≡ replyOf (now (index .entry)) lead b ⌝ }
 {
     if pairs::is_lead_or_none(lead) {
-        if index.len() == 23940 {
+        if index.len() == EucKr::INDEX {
             return Reply::Byte(decode(lead, b, index));
         }
     }
@@ -254,8 +254,13 @@ impl Scale {
 }
 
 impl EucKr {
+    // How many entries its index has.
     pub const INDEX: usize = 23940;
 
+    // How many bytes a part has at most.
+    pub const LIMIT: usize = 268435456;
+
+    // How many extras there are, one for each Hangul.
     pub const EXTRAS: usize = 11172;
 
     pub fn fresh() -> EucKr
@@ -673,10 +678,10 @@ fn is_ready(m: EucKr, part: &[u8], index: &[u32], extras: &[i16], weights: &[i32
     ensures { λ r. ⌜ r ≡ readyB (now (index .entry)) (now (extras .entry)) (now (weights .entry)) m (now (part .entry)) ⌝ }
 {
     if m.is_sound_for(268435456) {
-        if part.len() <= 268435456 {
-            if index.len() == 23940 {
-                if extras.len() == 11172 {
-                    return weights.len() == 17;
+        if part.len() <= EucKr::LIMIT {
+            if index.len() == EucKr::INDEX {
+                if extras.len() == EucKr::EXTRAS {
+                    return weights.len() == weights::COUNT;
                 }
             }
         }

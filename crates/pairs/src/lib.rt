@@ -139,6 +139,6 @@ impl Held {
         if s < 0 {
             return -2147483648 <= s;
         }
-        s <= 2147483648
+        s <= Held::MOST
     }
 }
