@@ -65,9 +65,12 @@ Bounded c Dropped = Unit {0}
 Bounded c Unfit = Unit {0}
 
 -- ---- a run and a close
+abbrev pub lentB : List ℕ → List ℤ → List ℤ → Bool
+lentB index extras weights = eqb (length index) entries && (eqb (length extras) extraCount && eqb (length weights) weightCount)
+
 -- the record is one that EUC-KR can hold, the part no longer than a stream, the lent lengths exact
 unfoldable pub readyB : List ℕ → List ℤ → List ℤ → EucKr → List ℕ → Bool
-readyB index extras weights m xs = soundB limit m && (leb (length xs) limit && (eqb (length index) entries && (eqb (length extras) extraCount && eqb (length weights) weightCount)))
+readyB index extras weights m xs = soundB limit m && (leb (length xs) limit && lentB index extras weights)
 
 pub record Ready (index : List ℕ) (extras weights : List ℤ) (m : EucKr) (xs : List ℕ) : Type 0 where
   pub sound : Sound limit m

@@ -10,7 +10,7 @@ ghost use Rattle.pairs.specs.declared.Held.the-variants.{Nothing};
 ghost use Rattle.weights.specs.Weights.{term, perByte, limit, weightCount};
 ghost use Rattle.euckr.specs.Standard.{entries, isTrail, pointerOf, isMapped, pairOf, decodeOf, replyOf};
 ghost use Rattle.euckr.specs.Scoring.{scaleOf, extraCount, extraOf, isEuc, isHangul, isHanja, hangulAfter, hanjaAfter, letterAfter, longOf, holdsOf, scored, letterOf, aroundOf, innerOf, outerOf, hangulOf, hanjaOf, otherOf, unitOf, isUserPair, isMacLead, isMacSymbol, isExtension, isLone, extensionOf, after as afterOf, pendingOf, strayOf, errorOf, lent, freshOf, stepOf};
-ghost use Rattle.euckr.specs.EucKr.{Sound, soundB, Small, room, outOf, ranAs, Slight, Bounded, readyB, ranOf, closedOf};
+ghost use Rattle.euckr.specs.EucKr.{Sound, soundB, Small, room, outOf, ranAs, Slight, Bounded, lentB, readyB, ranOf, closedOf};
 ghost use Rattle.euckr.specs.declared.LatinKorean.the-variants.{Other};
 use pairs::Decoded;
 use pairs::Event;
@@ -673,17 +673,25 @@ impl EucKr {
     }
 }
 
+// Whether the lent lengths are exact.
+fn is_lent(index: &[u32], extras: &[i16], weights: &[i32]) -> bool
+    ensures { λ r. ⌜ r ≡ lentB (now (index .entry)) (now (extras .entry)) (now (weights .entry)) ⌝ }
+{
+    if index.len() == EucKr::INDEX {
+        if extras.len() == EucKr::EXTRAS {
+            return weights.len() == weights::COUNT;
+        }
+    }
+    false
+}
+
 // Whether all is in order for a run.
 fn is_ready(m: EucKr, part: &[u8], index: &[u32], extras: &[i16], weights: &[i32]) -> bool
     ensures { λ r. ⌜ r ≡ readyB (now (index .entry)) (now (extras .entry)) (now (weights .entry)) m (now (part .entry)) ⌝ }
 {
     if m.is_sound_for(268435456) {
         if part.len() <= EucKr::LIMIT {
-            if index.len() == EucKr::INDEX {
-                if extras.len() == EucKr::EXTRAS {
-                    return weights.len() == weights::COUNT;
-                }
-            }
+            return is_lent(index, extras, weights);
         }
     }
     false
