@@ -1,0 +1,75 @@
+-- What a Big5 record can hold, what a run and a close give, for every record and every lent list. Assumes nothing.
+use mathlib.Core.Path.{_≡_}
+use mathlib.Core.Bool.{Bool, true, cond, _&&_}
+use mathlib.Core.List.{List}
+use Prim.Native.Nat.{ℕ, _≤_}
+use lib.Dec.{leb, eqb}
+use lib.IntN.{ℤ, pos, natAbs}
+use lib.ListN.{length}
+use Rattle.laws.specs.Run.{Out, none, live, run}
+use Rattle.pairs.specs.Pairs.{isLeadOrNone, releasedOf, smallHeldB}
+use Rattle.laws.specs.Limit.{limit}
+use Rattle.weights.specs.Weights.{weightCount, term}
+use Rattle.big5.specs.Standard.{entries}
+use Rattle.big5.specs.Scoring.{lent, scaleOf, stepOf}
+use Rattle.big5.specs.declared.Big5.{Big5}
+use Rattle.big5.specs.declared.Scale.{Scale}
+use Rattle.big5.specs.declared.Stepped.{Stepped}
+use Rattle.big5.specs.declared.Stepped.the-variants.{Live as SteppedLive, Dropped as SteppedDropped}
+use Rattle.big5.specs.declared.Ran.{Ran}
+use Rattle.big5.specs.declared.Ran.the-variants.{Live, Dropped, Unfit}
+
+-- a record that n bytes can have led to; Big5 counts nothing
+pub record Sound (n : ℕ) (m : Big5) : Type 0 where
+  pub lead-fits : isLeadOrNone (m .lead) ≡ true
+  pub held-small : natAbs (releasedOf (m .held)) ≤ term
+
+unfoldable pub soundB : ℕ → Big5 → Bool
+soundB n m = isLeadOrNone (m .lead) && smallHeldB (m .held)
+
+-- weights of 32 bits
+pub record Small (w : Scale) : Type 0 where
+  pub adjacency : natAbs (w .adjacency) ≤ term
+  pub punctuation : natAbs (w .punctuation) ≤ term
+  pub other : natAbs (w .other) ≤ term
+  pub level1 : natAbs (w .level1) ≤ term
+  pub hanzi : natAbs (w .hanzi) ≤ term
+  pub pua : natAbs (w .pua) ≤ term
+  pub extension : natAbs (w .extension) ≤ term
+
+-- ---- answers, as outcomes
+abbrev pub outOf : Stepped → Out (Unit {0}) Big5
+outOf (SteppedLive m s) = live m s
+outOf SteppedDropped = none tt
+
+abbrev pub ranAs : Out (Unit {0}) Big5 → Ran
+ranAs (live m s) = Live m s
+ranAs (none d) = Dropped
+
+-- a live answer's change of the score is at most c in size
+abbrev pub Bounded : ℕ → Ran → Type 0
+Bounded c (Live m s) = natAbs s ≤ c
+Bounded c Dropped = Unit {0}
+Bounded c Unfit = Unit {0}
+
+-- ---- a run and a close
+-- the record is one that Big5 can hold, the part no longer than a stream, the lent lengths exact
+unfoldable pub readyB : List ℕ → List ℤ → Big5 → List ℕ → Bool
+readyB index weights m xs = soundB limit m && (leb (length xs) limit && (eqb (length index) entries && eqb (length weights) weightCount))
+
+pub record Ready (index : List ℕ) (weights : List ℤ) (m : Big5) (xs : List ℕ) : Type 0 where
+  pub sound : Sound limit m
+  pub short : length xs ≤ limit
+  pub index-length : length index ≡ entries
+  pub weights-length : length weights ≡ weightCount
+
+-- the score starts from 0: what a run gives is its change
+unfoldable pub ranOf : List ℕ → List ℤ → Big5 → List ℕ → Ran
+ranOf index weights m xs = cond (readyB index weights m xs) (ranAs (run (stepOf (lent index (scaleOf weights))) (live m (pos 0)) xs)) Unfit
+
+-- the end of the stream: none where a lead is pending; a held score counts nothing, and stays
+abbrev pub closeOf : Big5 → Out (Unit {0}) Big5
+closeOf m = cond (eqb (m .lead) 0) (live m (pos 0)) (none tt)
+
+unfoldable pub closedOf : Big5 → Ran
+closedOf m = cond (soundB limit m) (ranAs (closeOf m)) Unfit

@@ -1,0 +1,125 @@
+-- When a score is held: only after a lead that holds, where the kind before is not Cj; and it is one of the two scores of a
+-- Hanzi. A lead leaves it as it was; every other byte releases or discards it. Assumes nothing.
+use mathlib.Core.Path.{_≡_, refl}
+use mathlib.Core.Bool.{Bool, true, false, cond, not, _&&_}
+use mathlib.Core.Logic.{_⊎_, inl, inr}
+use Prim.Native.Nat.{ℕ}
+use native.Mathlib.Omega.{arith}
+use lib.Dec.{ltb, eqb}
+use lib.IntN.{ℤ, pos, _+ℤ_}
+use borrow.Author.Tests.{not-true, eq-eqb}
+use Rattle.laws.specs.Tests.{both}
+use Rattle.laws.specs.Run.{Out, none, live}
+use Rattle.octets.specs.Octets.{between, ascii, letter}
+use Rattle.pairs.specs.Pairs.{isHeldLead, releasedOf}
+use Rattle.pairs.specs.declared.Event.{Event}
+use Rattle.pairs.specs.declared.Event.the-variants.{Pending, Point, Two, Error}
+use Rattle.pairs.specs.declared.Held.the-variants.{Nothing, Score}
+use Rattle.big5.specs.Standard.{decodeOf}
+use Rattle.big5.specs.Scoring.{isHanzi, isDistinct, isCj, besideOf, scored, holdsOf, hanziWeight, letterOf, hanziOf, otherOf, unitOf, pointOf, unmappedOf, extensionOf, isPair, extends, after, strayOf, errorOf, onEvent, Lent, stepOf}
+use Rattle.big5.specs.Big5.{closeOf}
+use Rattle.big5.specs.declared.Big5.{Big5}
+use Rattle.big5.specs.declared.LatinCj.{LatinCj}
+use Rattle.big5.specs.declared.LatinCj.the-variants.{AsciiLetter, Cj, Other}
+use Rattle.big5.specs.declared.Scale.{Scale}
+use Rattle.big5.specs.declared.Scored.{Scored}
+
+-- k is held anew: why
+pub record Why (w : Scale) (m : Big5) (k : ℤ) : Type 0 where
+  pub not-after-cj : isCj (m .prev) ≡ false
+  pub after-lead : isHeldLead (m .«prev_byte») ≡ true
+  pub of-hanzi : (k ≡ w .level1) ⊎ (k ≡ w .hanzi)
+
+module _ (w : Scale) (m : Big5) where
+  Whys : Scored → Type 0
+  Whys s = (k : ℤ) → s .held ≡ Score k → Why w m k
+
+  why-pick : (t : Bool) (a b : Scored) → Whys a → Whys b → Whys (cond t a b)
+  unfolding Whys
+  why-pick true a b p q = p
+  why-pick false a b p q = q
+
+  why-not : (kind : LatinCj) (g : ℤ) → Whys (scored kind Nothing g)
+  unfolding Whys
+  why-not kind g k e = let z : _≡_ {A = ℕ} 0 1 = cc in absurd (omega arith)
+
+  why-held : (own g : ℤ) → (own ≡ w .level1) ⊎ (own ≡ w .hanzi) → holdsOf m ≡ true → Whys (scored Cj (Score own) g)
+  unfolding Whys holdsOf
+  why-held own g o h k e =
+      let a = both (not (isCj (m .prev))) (isHeldLead (m .«prev_byte»)) h in
+      let f : own ≡ k = cc in
+      record { not-after-cj = not-true (isCj (m .prev)) (a .0); after-lead = a .1; of-hanzi = rw f at o }
+
+  hanzi-pick : (t : Bool) (own g h : ℤ) → (own ≡ w .level1) ⊎ (own ≡ w .hanzi) → holdsOf m ≡ t → Whys (cond t (scored Cj (Score own) g) (scored Cj Nothing h))
+  hanzi-pick true own g h o e = why-held own g o e
+  hanzi-pick false own g h o e = why-not Cj h
+
+  why-hanzi : (own : ℤ) → (own ≡ w .level1) ⊎ (own ≡ w .hanzi) → Whys (hanziOf w m own)
+  unfolding hanziOf
+  why-hanzi own o = hanzi-pick (holdsOf m) own (releasedOf (m .held) +ℤ besideOf w (m .prev)) (releasedOf (m .held) +ℤ besideOf w (m .prev) +ℤ own) o refl
+
+  which : (t : Bool) → (cond t (w .level1) (w .hanzi) ≡ w .level1) ⊎ (cond t (w .level1) (w .hanzi) ≡ w .hanzi)
+  which true = inl refl
+  which false = inr refl
+
+  why-unit : (u : ℕ) → Whys (unitOf w m u)
+  unfolding unitOf letterOf otherOf hanziWeight
+  why-unit u =
+      why-pick (letter u) (letterOf w m) _ (why-not AsciiLetter _)
+      (why-pick (isHanzi u) (hanziOf w m (hanziWeight w (m .«prev_byte»))) _ (why-hanzi (hanziWeight w (m .«prev_byte»)) (which (between 0xA4 0xC6 (m .«prev_byte»))))
+      (why-pick (isDistinct u) (otherOf m (w .punctuation)) _ (why-not Other _)
+      (why-pick (ascii u) (scored Other Nothing (pos 0)) (otherOf m (w .other)) (why-not Other (pos 0)) (why-not Other _))))
+
+  why-point : (p : ℕ) → Whys (pointOf w m p)
+  unfolding pointOf
+  why-point p = why-pick (ltb p 0x10000) (unitOf w m p) (hanziOf w m (w .hanzi)) (why-unit p) (why-hanzi (w .hanzi) (inr refl))
+
+  why-extension : (b : ℕ) → Whys (extensionOf w b)
+  unfolding extensionOf
+  why-extension b =
+      why-pick (eqb b 0xFF) (scored Other Nothing (w .extension +ℤ w .extension)) _ (why-not Other _)
+      (why-pick (letter b) (scored AsciiLetter Nothing (w .extension)) (scored Other Nothing (w .extension)) (why-not AsciiLetter _) (why-not Other _))
+
+  -- ---- of a step: a score that is held was so already, and the byte is a lead, or it is held anew
+  WhyOut : Event → Out (Unit {0}) Big5 → Type 0
+  WhyOut v (none d) = Unit {0}
+  WhyOut v (live n g) = (k : ℤ) → n .held ≡ Score k → ((v ≡ Pending) × (m .held ≡ Score k)) ⊎ Why w m k
+
+  why-after : (v : Event) (lead b : ℕ) (s : Scored) → Whys s → WhyOut v (after lead b s)
+  unfolding Whys WhyOut
+  why-after v lead b s h k e = inr (h k e)
+
+  out-pick : (v : Event) (t : Bool) (a b : Out (Unit {0}) Big5) → WhyOut v a → WhyOut v b → WhyOut v (cond t a b)
+  unfolding WhyOut
+  out-pick v true a b p q = p
+  out-pick v false a b p q = q
+
+  why-none : (v : Event) → WhyOut v (none tt)
+  unfolding WhyOut
+  why-none v = tt
+
+  why-error : (lead b n : ℕ) → WhyOut (Error n) (errorOf w m lead b n)
+  unfolding errorOf strayOf unmappedOf
+  why-error lead b n =
+      let v = Error n in
+      out-pick v (isPair (m .«prev_byte») b) (after lead b (unmappedOf w m)) (strayOf w m lead b n) (why-after v lead b (unmappedOf w m) (why-not Cj _))
+      (out-pick v (extends (m .«prev_byte») b) (after lead b (extensionOf w b)) _ (why-after v lead b (extensionOf w b) (why-extension b))
+      (out-pick v (eqb n 1 && eqb b 0xFF) (after lead b (scored Other Nothing (w .extension))) (none tt) (why-after v lead b (scored Other Nothing (w .extension)) (why-not Other _)) (why-none v)))
+
+  why-event : (lead b : ℕ) (v : Event) → WhyOut v (onEvent w m lead b v)
+  unfolding WhyOut otherOf
+  why-event lead b Pending = λ k e. inl (refl, e)
+  why-event lead b (Point p) = why-after (Point p) lead b (pointOf w m p) (why-point p)
+  why-event lead b (Two p q) = why-after (Two p q) lead b (otherOf m (w .other)) (why-not Other _)
+  why-event lead b (Error n) = why-error lead b n
+
+pub held-why : (t : Lent) (m : Big5) (b : ℕ) (next : Big5) (g k : ℤ) → stepOf t m b ≡ live next g → next .held ≡ Score k → ((decodeOf (t .index) (m .lead) b .event ≡ Pending) × (m .held ≡ Score k)) ⊎ Why (t .scale) m k
+unfolding stepOf WhyOut
+held-why t m b next g k e h =
+    let d = decodeOf (t .index) (m .lead) b in
+    let x : WhyOut (t .scale) m (d .event) (live next g) = rw e at (why-event (t .scale) m (d .lead) b (d .event)) in
+    x k h
+
+-- at the close it counts nothing, and stays in the record
+pub held-at-close : (m : Big5) → m .lead ≡ 0 → closeOf m ≡ live m (pos 0)
+held-at-close m e = rw (eq-eqb (m .lead) 0 e)

@@ -1,0 +1,13 @@
+-- `EucKr::pending` meets its contract. Assumes nothing.
+use borrow.Author.Needs.{needs}
+use Rattle.euckr.proofs.EucKr.pending.Statement.{statement}
+use Rattle.euckr.proofs.EucKr.pending.Tie as tie
+
+is-euc-requires : tie.Need-is-euc-requires
+is-euc-requires c κs = search needs
+
+returns : tie.Need-returns
+returns c = rw (c .is-euc .ensures)
+
+pub pending-spec : {M : Type 1} → statement M
+pending-spec = tie.close (tie.spec is-euc-requires returns)

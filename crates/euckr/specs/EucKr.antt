@@ -1,0 +1,92 @@
+-- What an EUC-KR record can hold, what a run and a close give, for every record and every lent list. Assumes nothing.
+use mathlib.Core.Path.{_≡_}
+use mathlib.Core.Bool.{Bool, true, cond, _&&_}
+use mathlib.Core.List.{List}
+use Prim.Native.Nat.{ℕ, _≤_}
+use lib.Dec.{leb, eqb}
+use lib.IntN.{ℤ, pos, natAbs}
+use lib.ListN.{length}
+use Rattle.laws.specs.Run.{Out, none, live, run}
+use Rattle.pairs.specs.Pairs.{isLeadOrNone, releasedOf, smallHeldB}
+use Rattle.laws.specs.Limit.{limit}
+use Rattle.weights.specs.Weights.{weightCount, term, perByte}
+use Rattle.euckr.specs.Standard.{entries}
+use Rattle.euckr.specs.Scoring.{extraCount, lent, scaleOf, stepOf}
+use Rattle.euckr.specs.declared.EucKr.{EucKr}
+use Rattle.euckr.specs.declared.Scale.{Scale}
+use Rattle.euckr.specs.declared.Stepped.{Stepped}
+use Rattle.euckr.specs.declared.Stepped.the-variants.{Live as SteppedLive, Dropped as SteppedDropped}
+use Rattle.euckr.specs.declared.Ran.{Ran}
+use Rattle.euckr.specs.declared.Ran.the-variants.{Live, Dropped, Unfit}
+
+-- a record that n bytes can have led to
+pub record Sound (n : ℕ) (m : EucKr) : Type 0 where
+  pub lead-fits : isLeadOrNone (m .lead) ≡ true
+  pub word-most : m .«current_word_len» ≤ n
+  pub held-small : natAbs (releasedOf (m .held)) ≤ term
+
+unfoldable pub soundB : ℕ → EucKr → Bool
+soundB n m = isLeadOrNone (m .lead) && (leb (m .«current_word_len») n && smallHeldB (m .held))
+
+-- the longest word that a run can meet, from a record that it takes
+abbrev pub room : ℕ
+room = 536870912
+
+-- weights of 32 bits
+pub record Small (w : Scale) : Type 0 where
+  pub adjacency : natAbs (w .adjacency) ≤ term
+  pub other : natAbs (w .other) ≤ term
+  pub hangul : natAbs (w .hangul) ≤ term
+  pub outer : natAbs (w .outer) ≤ term
+  pub hanja : natAbs (w .hanja) ≤ term
+  pub mixed : natAbs (w .mixed) ≤ term
+  pub pua : natAbs (w .pua) ≤ term
+  pub mac : natAbs (w .mac) ≤ term
+  pub extension : natAbs (w .extension) ≤ term
+  pub long : natAbs (w .long) ≤ term
+
+-- ---- answers, as outcomes
+abbrev pub outOf : Stepped → Out (Unit {0}) EucKr
+outOf (SteppedLive m s) = live m s
+outOf SteppedDropped = none tt
+
+-- a live outcome's change of the score is at most five terms
+abbrev pub Slight : Out (Unit {0}) EucKr → Type 0
+Slight (live m g) = natAbs g ≤ perByte
+Slight (none d) = Unit {0}
+
+abbrev pub ranAs : Out (Unit {0}) EucKr → Ran
+ranAs (live m s) = Live m s
+ranAs (none d) = Dropped
+
+-- a live answer's change of the score is at most c in size
+abbrev pub Bounded : ℕ → Ran → Type 0
+Bounded c (Live m s) = natAbs s ≤ c
+Bounded c Dropped = Unit {0}
+Bounded c Unfit = Unit {0}
+
+-- ---- a run and a close
+abbrev pub lentB : List ℕ → List ℤ → List ℤ → Bool
+lentB index extras weights = eqb (length index) entries && (eqb (length extras) extraCount && eqb (length weights) weightCount)
+
+-- the record is one that EUC-KR can hold, the part no longer than a stream, the lent lengths exact
+unfoldable pub readyB : List ℕ → List ℤ → List ℤ → EucKr → List ℕ → Bool
+readyB index extras weights m xs = soundB limit m && (leb (length xs) limit && lentB index extras weights)
+
+pub record Ready (index : List ℕ) (extras weights : List ℤ) (m : EucKr) (xs : List ℕ) : Type 0 where
+  pub sound : Sound limit m
+  pub short : length xs ≤ limit
+  pub index-length : length index ≡ entries
+  pub extras-length : length extras ≡ extraCount
+  pub weights-length : length weights ≡ weightCount
+
+-- the score starts from 0: what a run gives is its change
+unfoldable pub ranOf : List ℕ → List ℤ → List ℤ → EucKr → List ℕ → Ran
+ranOf index extras weights m xs = cond (readyB index extras weights m xs) (ranAs (run (stepOf (lent index extras (scaleOf weights))) (live m (pos 0)) xs)) Unfit
+
+-- the end of the stream: none where a lead is pending; a held score counts nothing, and stays
+abbrev pub closeOf : EucKr → Out (Unit {0}) EucKr
+closeOf m = cond (eqb (m .lead) 0) (live m (pos 0)) (none tt)
+
+unfoldable pub closedOf : EucKr → Ran
+closedOf m = cond (soundB limit m) (ranAs (closeOf m)) Unfit

@@ -1,0 +1,699 @@
+// EUC-KR: the Standard's decoder over a lent index, and the scoring machine over what it yields.
+ghost use mathlib.Core.Path.{_≡_};
+ghost use mathlib.Core.Bool.{true};
+ghost use Prim.Native.Nat.{_*_, _≤_, _<_};
+ghost use lib.IntN.{pos, natAbs};
+ghost use lib.ListN.{length, getD};
+ghost use Rattle.laws.specs.Run.{live, run};
+ghost use Rattle.pairs.specs.Pairs.{isLeadOrNone, SmallHeld};
+ghost use Rattle.pairs.specs.declared.Held.the-variants.{Nothing};
+ghost use Rattle.laws.specs.Limit.{limit};
+ghost use Rattle.weights.specs.Weights.{term, perByte, weightCount};
+ghost use Rattle.euckr.specs.Standard.{entries, isTrail, pointerOf, isMapped, pairOf, decodeOf, replyOf};
+ghost use Rattle.euckr.specs.Scoring.{scaleOf, extraCount, extraOf, isEuc, isHangul, isHanja, hangulAfter, hanjaAfter, letterAfter, longOf, holdsOf, scored, letterOf, aroundOf, innerOf, outerOf, hangulOf, hanjaOf, otherOf, unitOf, isUserPair, isMacLead, isMacSymbol, isExtension, isLone, extensionOf, after as afterOf, pendingOf, strayOf, errorOf, lent, freshOf, stepOf};
+ghost use Rattle.euckr.specs.EucKr.{Sound, soundB, Small, room, outOf, ranAs, Slight, Bounded, lentB, readyB, ranOf, closedOf};
+ghost use Rattle.euckr.specs.declared.LatinKorean.the-variants.{Other};
+use pairs::Decoded;
+use pairs::Event;
+use pairs::Held;
+use pairs::Reply;
+
+// The kind of what came before.
+pub enum LatinKorean {
+    AsciiLetter,
+    Hangul,
+    Hanja,
+    Other,
+}
+
+pub struct EucKr {
+    pub lead: u8,
+    pub prev_byte: u8,
+    pub prev_was_euc_range: bool,
+    pub prev: LatinKorean,
+    pub current_word_len: u64,
+    pub held: Held,
+}
+
+// What a stretch gives: the record after it and by how much the score changed, or none; or it was not fit to be run.
+pub enum Ran {
+    Live(EucKr, i64),
+    Dropped,
+    Unfit,
+}
+
+// What one byte gives.
+enum Stepped {
+    Live(EucKr, i64),
+    Dropped,
+}
+
+// The weights that this machine uses: `outer` of a Hangul outside the EUC range, `mixed` of a Hanja after a Hangul, `long` of
+// a long word.
+struct Scale {
+    adjacency: i64,
+    other: i64,
+    hangul: i64,
+    outer: i64,
+    hanja: i64,
+    mixed: i64,
+    pua: i64,
+    mac: i64,
+    extension: i64,
+    long: i64,
+}
+
+// What a byte makes of a record, but for its lead, its previous byte and the range of that.
+struct Scored {
+    prev: LatinKorean,
+    word: u64,
+    held: Held,
+    gain: i64,
+}
+
+// ---- the decoder
+fn is_trail(b: u8) -> bool
+    ensures { λ r. ⌜ r ≡ isTrail b ⌝ }
+{
+    if b < 0x41 {
+        return false;
+    }
+    b < 0xFF
+}
+
+fn pointer(lead: u8, b: u8) -> usize
+    requires { ⌜ (0x81 ≤ lead) × (lead ≤ 0xFE) ⌝ }
+    requires { ⌜ isTrail b ≡ true ⌝ }
+    ensures { λ r. ⌜ r ≡ pointerOf lead b ⌝ }
+    ensures { λ r. ⌜ r < entries ⌝ }
+{
+    (lead - 0x81) as usize * 190 + (b - 0x41) as usize
+}
+
+fn is_mapped(entry: u32) -> bool
+    ensures { λ r. ⌜ r ≡ isMapped entry ⌝ }
+{
+    if entry < 0x80 {
+        return false;
+    }
+    if entry < 0xD800 {
+        return true;
+    }
+    if entry < 0xE000 {
+        return false;
+    }
+    entry < 0x10000
+}
+
+// A lead and the byte after it.
+fn pair(lead: u8, b: u8, index: &[u32]) -> Event
+    requires { ⌜ (0x81 ≤ lead) × (lead ≤ 0xFE) ⌝ }
+    requires { ⌜ length (now index) ≡ entries ⌝ }
+    ensures { λ r. ⌜ r ≡ pairOf (now (index .entry)) lead b ⌝ }
+{
+    if is_trail(b) {
+        let entry = index[pointer(lead, b)];
+        if is_mapped(entry) {
+            return Event::Point(entry);
+        }
+    }
+    pairs::malformed(b)
+}
+
+fn decode(lead: u8, b: u8, index: &[u32]) -> Decoded
+    requires { ⌜ isLeadOrNone lead ≡ true ⌝ }
+    requires { ⌜ length (now index) ≡ entries ⌝ }
+    ensures { λ r. ⌜ r ≡ decodeOf (now (index .entry)) lead b ⌝ }
+{
+    if lead == 0 {
+        return pairs::first(b);
+    }
+    let event = pair(lead, b, index);
+    Decoded { lead: 0, event }
+}
+
+// The decoder alone: a lead, or 0, and a byte, over an index of the right length.
+pub fn decoded(lead: u8, b: u8, index: &[u32]) -> Reply
+    ensures { λ r. ⌜ r ≡ replyOf (now (index .entry)) lead b ⌝ }
+{
+    if pairs::is_lead_or_none(lead) {
+        if index.len() == EucKr::INDEX {
+            return Reply::Byte(decode(lead, b, index));
+        }
+    }
+    Reply::Unfit
+}
+
+// ---- what the tests of a byte or a unit say
+fn is_euc(b: u8) -> bool
+    ensures { λ r. ⌜ r ≡ isEuc b ⌝ }
+{
+    if b < 0xA1 {
+        return false;
+    }
+    b < 0xFF
+}
+
+fn is_hangul(u: u32) -> bool
+    ensures { λ r. ⌜ r ≡ isHangul u ⌝ }
+{
+    if u < 0xAC00 {
+        return false;
+    }
+    u < 0xD7A4
+}
+
+fn is_hanja(u: u32) -> bool
+    ensures { λ r. ⌜ r ≡ isHanja u ⌝ }
+{
+    if u < 0x4E00 {
+        return false;
+    }
+    if u < 0xAC00 {
+        return true;
+    }
+    if u < 0xF900 {
+        return false;
+    }
+    u < 0xFA0C
+}
+
+// The extra of a Hangul.
+fn extra(extras: &[i16], u: u32) -> i64
+    requires { ⌜ length (now extras) ≡ extraCount ⌝ }
+    requires { ⌜ isHangul u ≡ true ⌝ }
+    ensures { λ r. ⌜ r ≡ extraOf (now (extras .entry)) u ⌝ }
+    ensures { λ r. ⌜ natAbs r ≤ term ⌝ }
+{
+    extras[(u - 0xAC00) as usize] as i64
+}
+
+impl Scale {
+    fn read(weights: &[i32]) -> Scale
+        ensures { λ r. ⌜ r ≡ scaleOf (now (weights .entry)) ⌝ }
+        ensures { λ r. ⌜ Small r ⌝ }
+    {
+        Scale {
+            adjacency: pairs::weight(weights, weights::CJK_LATIN_ADJACENCY),
+            other: pairs::weight(weights, weights::CJK_OTHER),
+            hangul: pairs::weight(weights, weights::EUC_HANGUL),
+            outer: pairs::weight(weights, weights::NON_EUC_HANGUL),
+            hanja: pairs::weight(weights, weights::HANJA),
+            mixed: pairs::weight(weights, weights::HANJA_AFTER_HANGUL),
+            pua: pairs::weight(weights, weights::EUC_KR_PUA),
+            mac: pairs::weight(weights, weights::MAC_KOREAN),
+            extension: pairs::weight(weights, weights::EUC_KR_EXTENSION),
+            long: pairs::weight(weights, weights::LONG_WORD),
+        }
+    }
+
+    // What a Hangul adds that stands after this kind.
+    fn hangul_after(self, prev: LatinKorean) -> i64
+        ensures { λ r. ⌜ r ≡ hangulAfter self prev ⌝ }
+    {
+        match prev {
+            LatinKorean::AsciiLetter => self.adjacency,
+            LatinKorean::Hangul => 0,
+            LatinKorean::Hanja => 0,
+            LatinKorean::Other => 0,
+        }
+    }
+
+    // What a Hanja adds that stands after this kind.
+    fn hanja_after(self, prev: LatinKorean) -> i64
+        ensures { λ r. ⌜ r ≡ hanjaAfter self prev ⌝ }
+    {
+        match prev {
+            LatinKorean::AsciiLetter => self.adjacency,
+            LatinKorean::Hangul => self.mixed,
+            LatinKorean::Hanja => 0,
+            LatinKorean::Other => 0,
+        }
+    }
+
+    // What a letter adds that stands after this kind.
+    fn letter_after(self, prev: LatinKorean) -> i64
+        ensures { λ r. ⌜ r ≡ letterAfter self prev ⌝ }
+    {
+        match prev {
+            LatinKorean::AsciiLetter => 0,
+            LatinKorean::Hangul => self.adjacency,
+            LatinKorean::Hanja => self.adjacency,
+            LatinKorean::Other => 0,
+        }
+    }
+
+    // What a word adds that has become this long.
+    fn of_word(self, word: u64) -> i64
+        ensures { λ r. ⌜ r ≡ longOf self word ⌝ }
+    {
+        if 5 < word {
+            return self.long;
+        }
+        0
+    }
+}
+
+impl EucKr {
+    // How many entries its index has.
+    pub const INDEX: usize = 23940;
+
+    // How many bytes a part has at most.
+    pub const LIMIT: usize = 268435456;
+
+    // How many extras there are, one for each Hangul.
+    pub const EXTRAS: usize = 11172;
+
+    pub fn fresh() -> EucKr
+        ensures { λ r. ⌜ r ≡ freshOf ⌝ }
+    {
+        EucKr {
+            lead: 0,
+            prev_byte: 0,
+            prev_was_euc_range: false,
+            prev: LatinKorean::Other,
+            current_word_len: 0,
+            held: Held::Nothing,
+        }
+    }
+
+    // Whether the score of a Hangul outside the EUC range waits for what follows.
+    fn holds(self) -> bool
+        ensures { λ r. ⌜ r ≡ holdsOf self ⌝ }
+    {
+        let prev = self.prev;
+        match prev {
+            LatinKorean::AsciiLetter => pairs::is_held_lead(self.prev_byte),
+            LatinKorean::Hangul => false,
+            LatinKorean::Hanja => pairs::is_held_lead(self.prev_byte),
+            LatinKorean::Other => pairs::is_held_lead(self.prev_byte),
+        }
+    }
+
+    // A letter discards what is held.
+    fn letter(self, w: Scale) -> Scored
+        ensures { λ r. ⌜ r ≡ letterOf w self ⌝ }
+    {
+        let prev = self.prev;
+        let gain = w.letter_after(prev);
+        Scored {
+            prev: LatinKorean::AsciiLetter,
+            word: 0,
+            held: Held::Nothing,
+            gain,
+        }
+    }
+
+    // What a Hangul adds besides its own score: what is held, its neighbour, its word.
+    fn around_hangul(self, w: Scale) -> i64
+        requires { ⌜ Small w ⌝ }
+        requires { ⌜ SmallHeld (self .held) ⌝ }
+        requires { ⌜ self .«current_word_len» ≤ room ⌝ }
+        ensures { λ r. ⌜ r ≡ aroundOf w self ⌝ }
+    {
+        let prev = self.prev;
+        let held = self.held;
+        held.released() + w.hangul_after(prev) + w.of_word(self.current_word_len + 1)
+    }
+
+    // A Hangul of two bytes in the EUC range, with its extra.
+    fn inner_hangul(self, extra: i64, w: Scale) -> Scored
+        requires { ⌜ Small w ⌝ }
+        requires { ⌜ SmallHeld (self .held) ⌝ }
+        requires { ⌜ self .«current_word_len» ≤ room ⌝ }
+        requires { ⌜ natAbs extra ≤ term ⌝ }
+        ensures { λ r. ⌜ r ≡ innerOf w self extra ⌝ }
+    {
+        Scored {
+            prev: LatinKorean::Hangul,
+            word: self.current_word_len + 1,
+            held: Held::Nothing,
+            gain: self.around_hangul(w) + w.hangul + extra,
+        }
+    }
+
+    // Any other Hangul: its score may be held.
+    fn outer_hangul(self, w: Scale) -> Scored
+        requires { ⌜ Small w ⌝ }
+        requires { ⌜ SmallHeld (self .held) ⌝ }
+        requires { ⌜ self .«current_word_len» ≤ room ⌝ }
+        ensures { λ r. ⌜ r ≡ outerOf w self ⌝ }
+    {
+        let gain = self.around_hangul(w);
+        if self.holds() {
+            return Scored {
+                prev: LatinKorean::Hangul,
+                word: self.current_word_len + 1,
+                held: Held::Score(w.outer),
+                gain,
+            };
+        }
+        Scored {
+            prev: LatinKorean::Hangul,
+            word: self.current_word_len + 1,
+            held: Held::Nothing,
+            gain: gain + w.outer,
+        }
+    }
+
+    fn hangul(self, u: u32, b: u8, extras: &[i16], w: Scale) -> Scored
+        requires { ⌜ Small w ⌝ }
+        requires { ⌜ SmallHeld (self .held) ⌝ }
+        requires { ⌜ self .«current_word_len» ≤ room ⌝ }
+        requires { ⌜ length (now extras) ≡ extraCount ⌝ }
+        requires { ⌜ isHangul u ≡ true ⌝ }
+        ensures { λ r. ⌜ r ≡ hangulOf w self (now (extras .entry)) u b ⌝ }
+        ensures { λ r. ⌜ natAbs (r .gain) ≤ perByte ⌝ }
+    {
+        if self.prev_was_euc_range {
+            if is_euc(b) {
+                return self.inner_hangul(extra(extras, u), w);
+            }
+        }
+        self.outer_hangul(w)
+    }
+
+    // A Hanja, or a pair that counts as one.
+    fn hanja(self, own: i64, w: Scale) -> Scored
+        requires { ⌜ Small w ⌝ }
+        requires { ⌜ SmallHeld (self .held) ⌝ }
+        requires { ⌜ self .«current_word_len» ≤ room ⌝ }
+        requires { ⌜ natAbs own ≤ term ⌝ }
+        ensures { λ r. ⌜ r ≡ hanjaOf w self own ⌝ }
+    {
+        let prev = self.prev;
+        let held = self.held;
+        let word = self.current_word_len + 1;
+        Scored {
+            prev: LatinKorean::Hanja,
+            word,
+            held: Held::Nothing,
+            gain: held.released() + own + w.hanja_after(prev) + w.of_word(word),
+        }
+    }
+
+    // Anything else that is no ASCII: what is held is released, and its own score added.
+    fn other(self, own: i64) -> Scored
+        requires { ⌜ SmallHeld (self .held) ⌝ }
+        requires { ⌜ natAbs own ≤ term ⌝ }
+        ensures { λ r. ⌜ r ≡ otherOf self own ⌝ }
+    {
+        let held = self.held;
+        Scored {
+            prev: LatinKorean::Other,
+            word: 0,
+            held: Held::Nothing,
+            gain: held.released() + own,
+        }
+    }
+
+    fn unit(self, u: u32, b: u8, extras: &[i16], w: Scale) -> Scored
+        requires { ⌜ Small w ⌝ }
+        requires { ⌜ SmallHeld (self .held) ⌝ }
+        requires { ⌜ self .«current_word_len» ≤ room ⌝ }
+        requires { ⌜ length (now extras) ≡ extraCount ⌝ }
+        ensures { λ r. ⌜ r ≡ unitOf w (now (extras .entry)) self u b ⌝ }
+        ensures { λ r. ⌜ natAbs (r .gain) ≤ perByte ⌝ }
+    {
+        if pairs::is_letter(u) {
+            return self.letter(w);
+        }
+        if is_hangul(u) {
+            return self.hangul(u, b, extras, w);
+        }
+        if is_hanja(u) {
+            return self.hanja(w.hanja, w);
+        }
+        if u < 0x80 {
+            return plain(0);
+        }
+        self.other(w.other)
+    }
+}
+
+// What is held is discarded, and the kind is Other.
+fn plain(gain: i64) -> Scored
+    ensures { λ r. ⌜ r ≡ scored Other 0 Nothing gain ⌝ }
+{
+    Scored {
+        prev: LatinKorean::Other,
+        word: 0,
+        held: Held::Nothing,
+        gain,
+    }
+}
+
+// Whether the byte before and this one are a pair that code page 949 leaves to its users.
+fn is_user_pair(prev_byte: u8, b: u8) -> bool
+    ensures { λ r. ⌜ r ≡ isUserPair «prev_byte» b ⌝ }
+{
+    if prev_byte == 0xC9 {
+        return is_euc(b);
+    }
+    if prev_byte == 0xFE {
+        return is_euc(b);
+    }
+    false
+}
+
+fn is_mac_lead(b: u8) -> bool
+    ensures { λ r. ⌜ r ≡ isMacLead b ⌝ }
+{
+    match b {
+        0xA1 | 0xA3..=0xA8 | 0xAA..=0xAD => true,
+        _ => false,
+    }
+}
+
+// Whether they are a symbol of MacKorean outside code page 949.
+fn is_mac_symbol(prev_byte: u8, b: u8) -> bool
+    ensures { λ r. ⌜ r ≡ isMacSymbol «prev_byte» b ⌝ }
+{
+    if b < 0x7B {
+        return false;
+    }
+    if 0x7D < b {
+        return false;
+    }
+    is_mac_lead(prev_byte)
+}
+
+// Whether the byte before is a single-byte extension where it stands before ASCII, 80 or FF.
+fn is_extension(prev_byte: u8) -> bool
+    ensures { λ r. ⌜ r ≡ isExtension «prev_byte» ⌝ }
+{
+    if prev_byte < 0x81 {
+        return false;
+    }
+    prev_byte < 0x85
+}
+
+// The extensions that are no leads.
+fn is_lone(b: u8) -> bool
+    ensures { λ r. ⌜ r ≡ isLone b ⌝ }
+{
+    if b == 0x80 {
+        return true;
+    }
+    b == 0xFF
+}
+
+// An extension byte with the byte after it: ASCII, or an extension too.
+fn extension(b: u8, w: Scale) -> Scored
+    requires { ⌜ Small w ⌝ }
+    ensures { λ r. ⌜ r ≡ extensionOf w b ⌝ }
+{
+    if is_lone(b) {
+        return plain(w.extension + w.extension);
+    }
+    if octets::is_ascii_letter(b) {
+        return Scored {
+            prev: LatinKorean::AsciiLetter,
+            word: 0,
+            held: Held::Nothing,
+            gain: w.extension,
+        };
+    }
+    plain(w.extension)
+}
+
+// The record after a byte.
+fn after(lead: u8, b: u8, s: Scored) -> Stepped
+    ensures { λ r. ⌜ outOf r ≡ afterOf lead b s ⌝ }
+{
+    let prev = s.prev;
+    let held = s.held;
+    Stepped::Live(
+        EucKr {
+            lead,
+            prev_byte: b,
+            prev_was_euc_range: is_euc(b),
+            prev,
+            current_word_len: s.word,
+            held,
+        },
+        s.gain,
+    )
+}
+
+impl EucKr {
+    // An error that is neither a pair nor a symbol: an extension, or the machine drops out.
+    fn stray(self, lead: u8, b: u8, size: u8, w: Scale) -> Stepped
+        requires { ⌜ Small w ⌝ }
+        ensures { λ r. ⌜ outOf r ≡ strayOf w self lead b size ⌝ }
+    {
+        if is_extension(self.prev_byte) {
+            if b < 0x80 {
+                return after(lead, b, extension(b, w));
+            }
+            if is_lone(b) {
+                return after(lead, b, extension(b, w));
+            }
+        }
+        if size == 1 {
+            if is_lone(b) {
+                return after(lead, b, plain(w.extension));
+            }
+        }
+        Stepped::Dropped
+    }
+
+    fn error(self, lead: u8, b: u8, size: u8, w: Scale) -> Stepped
+        requires { ⌜ Small w ⌝ }
+        requires { ⌜ SmallHeld (self .held) ⌝ }
+        requires { ⌜ self .«current_word_len» ≤ room ⌝ }
+        ensures { λ r. ⌜ outOf r ≡ errorOf w self lead b size ⌝ }
+    {
+        if is_user_pair(self.prev_byte, b) {
+            return after(lead, b, self.hanja(w.pua, w));
+        }
+        if is_mac_symbol(self.prev_byte, b) {
+            return after(lead, b, self.other(w.mac));
+        }
+        self.stray(lead, b, size, w)
+    }
+
+    // A lead changes nothing else.
+    fn pending(self, lead: u8, b: u8) -> Stepped
+        ensures { λ r. ⌜ outOf r ≡ pendingOf self lead b ⌝ }
+    {
+        let prev = self.prev;
+        let held = self.held;
+        Stepped::Live(
+            EucKr {
+                lead,
+                prev_byte: b,
+                prev_was_euc_range: is_euc(b),
+                prev,
+                current_word_len: self.current_word_len,
+                held,
+            },
+            0,
+        )
+    }
+
+    fn step(self, b: u8, index: &[u32], extras: &[i16], w: Scale) -> Stepped
+        requires { ⌜ Small w ⌝ }
+        requires { ⌜ Sound room self ⌝ }
+        requires { ⌜ length (now index) ≡ entries ⌝ }
+        requires { ⌜ length (now extras) ≡ extraCount ⌝ }
+        ensures { λ r. ⌜ outOf r ≡ stepOf (lent (now (index .entry)) (now (extras .entry)) w) self b ⌝ }
+        ensures { λ r. ⌜ Slight (outOf r) ⌝ }
+    {
+        let d = decode(self.lead, b, index);
+        let event = d.event;
+        match event {
+            Event::Pending => self.pending(d.lead, b),
+            Event::Point(point) => after(d.lead, b, self.unit(point, b, extras, w)),
+            Event::Two(first, _) => after(d.lead, b, self.unit(first, b, extras, w)),
+            Event::Error(size) => self.error(d.lead, b, size, w),
+        }
+    }
+
+    fn go(self, part: &[u8], index: &[u32], extras: &[i16], w: Scale) -> Ran
+        requires { ⌜ Small w ⌝ }
+        requires { ⌜ Sound limit self ⌝ }
+        requires { ⌜ length (now part) ≤ limit ⌝ }
+        requires { ⌜ length (now index) ≡ entries ⌝ }
+        requires { ⌜ length (now extras) ≡ extraCount ⌝ }
+        ensures { λ r. ⌜ r ≡ ranAs (run (stepOf (lent (now (index .entry)) (now (extras .entry)) w)) (live self (pos 0)) (now (part .entry))) ⌝ }
+        ensures { λ r. ⌜ Bounded (perByte * length (now (part .entry))) r ⌝ }
+    {
+        let mut m = self;
+        let mut s: i64 = 0;
+        let mut i = 0;
+        while i < part.len() {
+            match m.step(part[i], index, extras, w) {
+                Stepped::Live(next, gain) => {
+                    m = next;
+                    s = s + gain;
+                }
+                Stepped::Dropped => {
+                    return Ran::Dropped;
+                }
+            }
+            i += 1;
+        }
+        Ran::Live(m, s)
+    }
+
+    // Whether the record is one that `bytes` bytes can have led to.
+    pub fn is_sound_for(self, bytes: u64) -> bool
+        ensures { λ r. ⌜ r ≡ soundB bytes self ⌝ }
+    {
+        if pairs::is_lead_or_none(self.lead) {
+            if self.current_word_len <= bytes {
+                let held = self.held;
+                return held.is_small();
+            }
+        }
+        false
+    }
+
+    pub fn run(self, part: &[u8], index: &[u32], extras: &[i16], weights: &[i32]) -> Ran
+        ensures { λ r. ⌜ r ≡ ranOf (now (index .entry)) (now (extras .entry)) (now (weights .entry)) self (now (part .entry)) ⌝ }
+        ensures { λ r. ⌜ Bounded (perByte * length (now (part .entry))) r ⌝ }
+    {
+        if is_ready(self, part, index, extras, weights) {
+            return self.go(part, index, extras, Scale::read(weights));
+        }
+        Ran::Unfit
+    }
+
+    // The end of the stream: none where a lead is pending. A held score counts nothing, and stays.
+    pub fn close(self) -> Ran
+        ensures { λ r. ⌜ r ≡ closedOf self ⌝ }
+    {
+        if self.is_sound_for(268435456) {
+            if self.lead == 0 {
+                return Ran::Live(self, 0);
+            }
+            return Ran::Dropped;
+        }
+        Ran::Unfit
+    }
+}
+
+// Whether the lent lengths are exact.
+fn is_lent(index: &[u32], extras: &[i16], weights: &[i32]) -> bool
+    ensures { λ r. ⌜ r ≡ lentB (now (index .entry)) (now (extras .entry)) (now (weights .entry)) ⌝ }
+{
+    if index.len() == EucKr::INDEX {
+        if extras.len() == EucKr::EXTRAS {
+            return weights.len() == weights::COUNT;
+        }
+    }
+    false
+}
+
+// Whether all is in order for a run.
+fn is_ready(m: EucKr, part: &[u8], index: &[u32], extras: &[i16], weights: &[i32]) -> bool
+    ensures { λ r. ⌜ r ≡ readyB (now (index .entry)) (now (extras .entry)) (now (weights .entry)) m (now (part .entry)) ⌝ }
+{
+    if m.is_sound_for(268435456) {
+        if part.len() <= EucKr::LIMIT {
+            return is_lent(index, extras, weights);
+        }
+    }
+    false
+}

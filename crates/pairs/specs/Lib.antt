@@ -1,0 +1,5 @@
+pub mod Pairs
+pub mod PairsLaws
+pub mod Sequences
+pub mod Ranges
+pub mod Sums
