@@ -8,7 +8,7 @@ use lib.IntN.{ℤ, pos, natAbs}
 use lib.ListN.{length}
 use Rattle.laws.specs.Run.{Out, none, live, run}
 use Rattle.pairs.specs.Pairs.{isLeadOrNone, releasedOf, smallHeldB}
-use Rattle.laws.specs.Limit.{limit}
+use Rattle.laws.specs.Limit.{limit, room}
 use Rattle.weights.specs.Weights.{weightCount, term, perByte}
 use Rattle.euckr.specs.Standard.{entries}
 use Rattle.euckr.specs.Scoring.{extraCount, lent, scaleOf, stepOf}
@@ -27,10 +27,6 @@ pub record Sound (n : ℕ) (m : EucKr) : Type 0 where
 
 unfoldable pub soundB : ℕ → EucKr → Bool
 soundB n m = isLeadOrNone (m .lead) && (leb (m .«current_word_len») n && smallHeldB (m .held))
-
--- the longest word that a run can meet, from a record that it takes
-abbrev pub room : ℕ
-room = 536870912
 
 -- weights of 32 bits
 pub record Small (w : Scale) : Type 0 where
@@ -71,10 +67,10 @@ lentB index extras weights = eqb (length index) entries && (eqb (length extras) 
 
 -- the record is one that EUC-KR can hold, the part no longer than a stream, the lent lengths exact
 unfoldable pub readyB : List ℕ → List ℤ → List ℤ → EucKr → List ℕ → Bool
-readyB index extras weights m xs = soundB limit m && (leb (length xs) limit && lentB index extras weights)
+readyB index extras weights m xs = soundB room m && (leb (length xs) limit && lentB index extras weights)
 
 pub record Ready (index : List ℕ) (extras weights : List ℤ) (m : EucKr) (xs : List ℕ) : Type 0 where
-  pub sound : Sound limit m
+  pub sound : Sound room m
   pub short : length xs ≤ limit
   pub index-length : length index ≡ entries
   pub extras-length : length extras ≡ extraCount
@@ -89,4 +85,4 @@ abbrev pub closeOf : EucKr → Out (Unit {0}) EucKr
 closeOf m = cond (eqb (m .lead) 0) (live m (pos 0)) (none tt)
 
 unfoldable pub closedOf : EucKr → Ran
-closedOf m = cond (soundB limit m) (ranAs (closeOf m)) Unfit
+closedOf m = cond (soundB room m) (ranAs (closeOf m)) Unfit

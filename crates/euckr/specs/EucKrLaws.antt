@@ -17,7 +17,7 @@ use Rattle.pairs.specs.PairsLaws.{handler-lead, held-true, true-held}
 use Rattle.pairs.specs.declared.Event.{Event}
 use Rattle.pairs.specs.declared.Event.the-variants.{Pending, Point, Two, Error}
 use Rattle.pairs.specs.declared.Held.the-variants.{Nothing, Score}
-use Rattle.laws.specs.Limit.{limit}
+use Rattle.laws.specs.Limit.{limit, room}
 use Rattle.weights.specs.Weights.{weightCount, term, perByte}
 use Rattle.euckr.specs.Standard.{entries, pairOf, decodeOf}
 use Rattle.euckr.specs.Scoring.{scaleOf, extraCount, extraOf, isEuc, isHangul, isHanja, scored, holdsOf, letterOf, aroundOf, innerOf, outerOf, hangulOf, hanjaOf, otherOf, unitOf, isUserPair, isMacSymbol, isLone, extends, extensionOf, after, strayOf, errorOf, onEvent, Lent, lent, stepOf}
@@ -49,15 +49,15 @@ module _ (index : List ℕ) (extras weights : List ℤ) (m : EucKr) (xs : List �
   pub ready-true : readyB index extras weights m xs ≡ true → Ready index extras weights m xs
   unfolding readyB
   ready-true e =
-      let a = both (soundB limit m) (leb (length xs) limit && (eqb (length index) entries && (eqb (length extras) extraCount && eqb (length weights) weightCount))) e in
+      let a = both (soundB room m) (leb (length xs) limit && (eqb (length index) entries && (eqb (length extras) extraCount && eqb (length weights) weightCount))) e in
       let b = both (leb (length xs) limit) (eqb (length index) entries && (eqb (length extras) extraCount && eqb (length weights) weightCount)) (a .1) in
       let c = both (eqb (length index) entries) (eqb (length extras) extraCount && eqb (length weights) weightCount) (b .1) in
       let d = both (eqb (length extras) extraCount) (eqb (length weights) weightCount) (c .1) in
-      record { sound = sound-true limit m (a .0); short = leb-true _ _ (b .0); index-length = eqb-true _ _ (c .0); extras-length = eqb-true _ _ (d .0); weights-length = eqb-true _ _ (d .1) }
+      record { sound = sound-true room m (a .0); short = leb-true _ _ (b .0); index-length = eqb-true _ _ (c .0); extras-length = eqb-true _ _ (d .0); weights-length = eqb-true _ _ (d .1) }
 
   pub true-ready : Ready index extras weights m xs → readyB index extras weights m xs ≡ true
   unfolding readyB
-  true-ready r = rw (true-sound limit m (r .sound), le-leb _ _ (r .short), eq-eqb _ _ (r .index-length), eq-eqb _ _ (r .extras-length), eq-eqb _ _ (r .weights-length))
+  true-ready r = rw (true-sound room m (r .sound), le-leb _ _ (r .short), eq-eqb _ _ (r .index-length), eq-eqb _ _ (r .extras-length), eq-eqb _ _ (r .weights-length))
 
   -- what a caller that has tested uses
   pub ran-ready : Ready index extras weights m xs → ranOf index extras weights m xs ≡ ranAs (run (stepOf (lent index extras (scaleOf weights))) (live m (pos 0)) xs)

@@ -7,11 +7,11 @@ ghost use lib.ListN.{length, getD};
 ghost use Rattle.laws.specs.Run.{live, run};
 ghost use Rattle.pairs.specs.Pairs.{isLeadOrNone, SmallHeld};
 ghost use Rattle.pairs.specs.declared.Held.the-variants.{Nothing};
-ghost use Rattle.laws.specs.Limit.{limit};
+ghost use Rattle.laws.specs.Limit.{limit, room};
 ghost use Rattle.weights.specs.Weights.{term, perByte, weightCount};
 ghost use Rattle.euckr.specs.Standard.{entries, isTrail, pointerOf, isMapped, pairOf, decodeOf, replyOf};
 ghost use Rattle.euckr.specs.Scoring.{scaleOf, extraCount, extraOf, isEuc, isHangul, isHanja, hangulAfter, hanjaAfter, letterAfter, longOf, holdsOf, scored, letterOf, aroundOf, innerOf, outerOf, hangulOf, hanjaOf, otherOf, unitOf, isUserPair, isMacLead, isMacSymbol, isExtension, isLone, extensionOf, after as afterOf, pendingOf, strayOf, errorOf, lent, freshOf, stepOf};
-ghost use Rattle.euckr.specs.EucKr.{Sound, soundB, Small, room, outOf, ranAs, Slight, Bounded, lentB, readyB, ranOf, closedOf};
+ghost use Rattle.euckr.specs.EucKr.{Sound, soundB, Small, outOf, ranAs, Slight, Bounded, lentB, readyB, ranOf, closedOf};
 ghost use Rattle.euckr.specs.declared.LatinKorean.the-variants.{Other};
 use pairs::Decoded;
 use pairs::Event;
@@ -261,6 +261,9 @@ impl EucKr {
     // How many bytes a part has at most.
     pub const LIMIT: usize = 268435456;
 
+    // A count at the entry of a call is at most this, so that no run makes it wrap.
+    const ROOM: u64 = 4611686018427387904;
+
     // How many extras there are, one for each Hangul.
     pub const EXTRAS: usize = 11172;
 
@@ -308,7 +311,7 @@ impl EucKr {
     fn around_hangul(self, w: Scale) -> i64
         requires { ⌜ Small w ⌝ }
         requires { ⌜ SmallHeld (self .held) ⌝ }
-        requires { ⌜ self .«current_word_len» ≤ room ⌝ }
+        requires { ⌜ self .«current_word_len» ≤ 2 * room ⌝ }
         ensures { λ r. ⌜ r ≡ aroundOf w self ⌝ }
     {
         let prev = self.prev;
@@ -320,7 +323,7 @@ impl EucKr {
     fn inner_hangul(self, extra: i64, w: Scale) -> Scored
         requires { ⌜ Small w ⌝ }
         requires { ⌜ SmallHeld (self .held) ⌝ }
-        requires { ⌜ self .«current_word_len» ≤ room ⌝ }
+        requires { ⌜ self .«current_word_len» ≤ 2 * room ⌝ }
         requires { ⌜ natAbs extra ≤ term ⌝ }
         ensures { λ r. ⌜ r ≡ innerOf w self extra ⌝ }
     {
@@ -336,7 +339,7 @@ impl EucKr {
     fn outer_hangul(self, w: Scale) -> Scored
         requires { ⌜ Small w ⌝ }
         requires { ⌜ SmallHeld (self .held) ⌝ }
-        requires { ⌜ self .«current_word_len» ≤ room ⌝ }
+        requires { ⌜ self .«current_word_len» ≤ 2 * room ⌝ }
         ensures { λ r. ⌜ r ≡ outerOf w self ⌝ }
     {
         let gain = self.around_hangul(w);
@@ -359,7 +362,7 @@ impl EucKr {
     fn hangul(self, u: u32, b: u8, extras: &[i16], w: Scale) -> Scored
         requires { ⌜ Small w ⌝ }
         requires { ⌜ SmallHeld (self .held) ⌝ }
-        requires { ⌜ self .«current_word_len» ≤ room ⌝ }
+        requires { ⌜ self .«current_word_len» ≤ 2 * room ⌝ }
         requires { ⌜ length (now extras) ≡ extraCount ⌝ }
         requires { ⌜ isHangul u ≡ true ⌝ }
         ensures { λ r. ⌜ r ≡ hangulOf w self (now (extras .entry)) u b ⌝ }
@@ -377,7 +380,7 @@ impl EucKr {
     fn hanja(self, own: i64, w: Scale) -> Scored
         requires { ⌜ Small w ⌝ }
         requires { ⌜ SmallHeld (self .held) ⌝ }
-        requires { ⌜ self .«current_word_len» ≤ room ⌝ }
+        requires { ⌜ self .«current_word_len» ≤ 2 * room ⌝ }
         requires { ⌜ natAbs own ≤ term ⌝ }
         ensures { λ r. ⌜ r ≡ hanjaOf w self own ⌝ }
     {
@@ -410,7 +413,7 @@ impl EucKr {
     fn unit(self, u: u32, b: u8, extras: &[i16], w: Scale) -> Scored
         requires { ⌜ Small w ⌝ }
         requires { ⌜ SmallHeld (self .held) ⌝ }
-        requires { ⌜ self .«current_word_len» ≤ room ⌝ }
+        requires { ⌜ self .«current_word_len» ≤ 2 * room ⌝ }
         requires { ⌜ length (now extras) ≡ extraCount ⌝ }
         ensures { λ r. ⌜ r ≡ unitOf w (now (extras .entry)) self u b ⌝ }
         ensures { λ r. ⌜ natAbs (r .gain) ≤ perByte ⌝ }
@@ -561,7 +564,7 @@ impl EucKr {
     fn error(self, lead: u8, b: u8, size: u8, w: Scale) -> Stepped
         requires { ⌜ Small w ⌝ }
         requires { ⌜ SmallHeld (self .held) ⌝ }
-        requires { ⌜ self .«current_word_len» ≤ room ⌝ }
+        requires { ⌜ self .«current_word_len» ≤ 2 * room ⌝ }
         ensures { λ r. ⌜ outOf r ≡ errorOf w self lead b size ⌝ }
     {
         if is_user_pair(self.prev_byte, b) {
@@ -594,7 +597,7 @@ impl EucKr {
 
     fn step(self, b: u8, index: &[u32], extras: &[i16], w: Scale) -> Stepped
         requires { ⌜ Small w ⌝ }
-        requires { ⌜ Sound room self ⌝ }
+        requires { ⌜ Sound (2 * room) self ⌝ }
         requires { ⌜ length (now index) ≡ entries ⌝ }
         requires { ⌜ length (now extras) ≡ extraCount ⌝ }
         ensures { λ r. ⌜ outOf r ≡ stepOf (lent (now (index .entry)) (now (extras .entry)) w) self b ⌝ }
@@ -612,7 +615,7 @@ impl EucKr {
 
     fn go(self, part: &[u8], index: &[u32], extras: &[i16], w: Scale) -> Ran
         requires { ⌜ Small w ⌝ }
-        requires { ⌜ Sound limit self ⌝ }
+        requires { ⌜ Sound room self ⌝ }
         requires { ⌜ length (now part) ≤ limit ⌝ }
         requires { ⌜ length (now index) ≡ entries ⌝ }
         requires { ⌜ length (now extras) ≡ extraCount ⌝ }
@@ -664,7 +667,7 @@ impl EucKr {
     pub fn close(self) -> Ran
         ensures { λ r. ⌜ r ≡ closedOf self ⌝ }
     {
-        if self.is_sound_for(268435456) {
+        if self.is_sound_for(EucKr::ROOM) {
             if self.lead == 0 {
                 return Ran::Live(self, 0);
             }
@@ -690,7 +693,7 @@ fn is_lent(index: &[u32], extras: &[i16], weights: &[i32]) -> bool
 fn is_ready(m: EucKr, part: &[u8], index: &[u32], extras: &[i16], weights: &[i32]) -> bool
     ensures { λ r. ⌜ r ≡ readyB (now (index .entry)) (now (extras .entry)) (now (weights .entry)) m (now (part .entry)) ⌝ }
 {
-    if m.is_sound_for(268435456) {
+    if m.is_sound_for(EucKr::ROOM) {
         if part.len() <= EucKr::LIMIT {
             return is_lent(index, extras, weights);
         }

@@ -9,7 +9,8 @@ use Rattle.laws.specs.Run.{Out, none, live, run}
 use Rattle.octets.specs.Octets.{ascii}
 use Rattle.weights.specs.Weights.{weightOf, case}
 use Rattle.single.specs.Class.{classOf, caselessOf, isCapital, latinLetter, alphabetic, unless255, space}
-use Rattle.single.specs.Fit.{room, Common, commonB, fitB}
+use Rattle.laws.specs.Limit.{room}
+use Rattle.single.specs.Fit.{Common, commonB, fitB}
 use Rattle.single.specs.Lent.{Lent}
 use Rattle.single.specs.Pair.{asciiPair, gainOf}
 use Rattle.single.specs.Words.{wordOf, longestOf}

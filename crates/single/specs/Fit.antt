@@ -6,10 +6,6 @@ use lib.Dec.{ltb, leb}
 use Rattle.laws.specs.Limit.{limit}
 use Rattle.single.specs.Lent.{Lent, Sized, sizedB}
 
--- a count at the entry of a call is at most this, so that no run makes it wrap
-abbrev pub room : ℕ
-room = 4611686018427387904
-
 -- what the shared fields of a record can hold after n bytes
 pub record Common (n prev word longest : ℕ) : Type 0 where
   pub prev-below : prev < 128

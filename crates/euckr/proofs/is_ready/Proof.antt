@@ -3,7 +3,7 @@ use mathlib.Core.Path.{_≡_, sym, _∙_}
 use mathlib.Core.Bool.{true, false}
 use borrow.Author.Needs.{needs}
 use borrow.Author.Tests.{le-leb, lt-leb}
-use Rattle.laws.specs.Limit.{limit}
+use Rattle.laws.specs.Limit.{limit, room}
 use Rattle.euckr.specs.EucKr.{soundB, readyB}
 use Rattle.euckr.proofs.is_ready.Statement.{statement}
 use Rattle.euckr.proofs.is_ready.Tie as tie
@@ -18,21 +18,21 @@ returns : tie.Need-returns
 unfolding readyB
 returns c =
     let s = c .before .before .before .before .before .before in
-    let t : soundB limit (s .args .m) ≡ true = sym (c .before .before .before .is-sound-for .ensures) ∙ c .before .before .if1 .taken in
+    let t : soundB room (s .args .m) ≡ true = sym (c .before .before .before .is-sound-for .ensures) ∙ c .before .before .if1 .taken in
     rw (t, le-leb _ _ (c .before .if2 .taken)) (c .is-lent .ensures)
 
 returns-2 : tie.Need-returns-2
 unfolding readyB
 returns-2 c =
     let s = c .before .before .before .before .before in
-    let t : soundB limit (s .args .m) ≡ true = sym (c .before .before .is-sound-for .ensures) ∙ c .before .if1 .taken in
+    let t : soundB room (s .args .m) ≡ true = sym (c .before .before .is-sound-for .ensures) ∙ c .before .if1 .taken in
     rw (t, lt-leb _ _ (c .if2 .left))
 
 returns-3 : tie.Need-returns-3
 unfolding readyB
 returns-3 c =
     let s = c .before .before .before .before in
-    let t : soundB limit (s .args .m) ≡ false = sym (c .before .is-sound-for .ensures) ∙ c .if1 .left in
+    let t : soundB room (s .args .m) ≡ false = sym (c .before .is-sound-for .ensures) ∙ c .if1 .left in
     rw t
 
 pub is-ready-spec : {M : Type 1} → statement M

@@ -2,7 +2,7 @@
 use mathlib.Core.Path.{_≡_, sym, _∙_}
 use mathlib.Core.Bool.{true, false}
 use borrow.Author.Tests.{eq-eqb, ne-eqb}
-use Rattle.laws.specs.Limit.{limit}
+use Rattle.laws.specs.Limit.{room}
 use Rattle.euckr.specs.EucKr.{soundB, closedOf}
 use borrow.Author.Needs.{needs}
 use Rattle.euckr.proofs.EucKr.close.Statement.{statement}
@@ -15,21 +15,21 @@ returns : tie.Need-returns
 unfolding closedOf
 returns c =
     let s = c .before .before .before .before in
-    let t : soundB limit (s .args .self) ≡ true = sym (c .before .before .before .is-sound-for .ensures) ∙ c .before .before .if1 .taken in
+    let t : soundB room (s .args .self) ≡ true = sym (c .before .before .before .is-sound-for .ensures) ∙ c .before .before .if1 .taken in
     rw (t, eq-eqb _ _ (c .if2 .taken))
 
 returns-2 : tie.Need-returns-2
 unfolding closedOf
 returns-2 c =
     let s = c .before .before .before .before in
-    let t : soundB limit (s .args .self) ≡ true = sym (c .before .before .before .is-sound-for .ensures) ∙ c .before .before .if1 .taken in
+    let t : soundB room (s .args .self) ≡ true = sym (c .before .before .before .is-sound-for .ensures) ∙ c .before .before .if1 .taken in
     rw (t, ne-eqb _ _ (c .if2 .left))
 
 returns-3 : tie.Need-returns-3
 unfolding closedOf
 returns-3 c =
     let s = c .before .before in
-    let t : soundB limit (s .args .self) ≡ false = sym (c .before .is-sound-for .ensures) ∙ c .if1 .left in
+    let t : soundB room (s .args .self) ≡ false = sym (c .before .is-sound-for .ensures) ∙ c .if1 .left in
     rw t
 
 pub close-spec : {M : Type 1} → statement M
