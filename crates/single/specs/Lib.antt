@@ -6,7 +6,7 @@ pub mod Class
 pub mod ClassLaws
 pub mod Fit
 pub mod FitLaws
-pub mod Head
+pub mod HeadLaws
 pub mod Lent
 pub mod Logical
 pub mod LogicalLaws
