@@ -1,0 +1,53 @@
+// Which place leads.
+ghost use mathlib.Core.Path.{_≡_};
+use crate::state::State;
+use places::place::Score;
+use places::slate::PLACES;
+
+// Before any trigger; no place has a score; or the number of the place.
+pub enum Leader {
+    Ascii,
+    None,
+    Place(usize),
+}
+
+// The score that leads so far, and where.
+enum Best {
+    None,
+    Score(usize, i64),
+}
+
+fn better(best: Best, k: usize, score: Score) -> Best {
+    let Score::Live(n) = score else {
+        return best;
+    };
+    match best {
+        Best::None => Best::Score(k, n),
+        Best::Score(_, most) => {
+            if most < n {
+                return Best::Score(k, n);
+            }
+            best
+        }
+    }
+}
+
+pub fn leader(state: State) -> Leader {
+    let front = state.front;
+    let places = state.places;
+    if !front.is_triggered() {
+        return Leader::Ascii;
+    }
+    let mut best = Best::None;
+    let mut k = 0;
+    while k < PLACES {
+        let place = places[k];
+        let score = place.score;
+        best = better(best, k, score);
+        k += 1;
+    }
+    match best {
+        Best::None => Leader::None,
+        Best::Score(at, _) => Leader::Place(at),
+    }
+}

@@ -1,0 +1,237 @@
+// One machine of the eight, under its kind: what a stretch of bytes and the end of the stream make of it.
+ghost use mathlib.Core.Path.{_≡_};
+ghost use Prim.Native.Nat.{_*_};
+ghost use lib.ListN.{length};
+ghost use Rattle.weights.specs.Weights.{perByte};
+ghost use Rattle.kinds.specs.Tables.{single, singles, tables};
+ghost use Rattle.kinds.specs.Kinds.{kindOf, freshIn, ofUtf8, ofIso2022Jp, ofEucKr, ofBig5, ofCaseless, ofLogical, ofVisual, ofArabicFrench, ranOf, closedOf, Small, Weighed};
+use big5;
+use big5::Big5;
+use euckr;
+use euckr::EucKr;
+use iso2022jp;
+use iso2022jp::Iso2022Jp;
+use single::arabic_french;
+use single::arabic_french::ArabicFrench;
+use single::caseless;
+use single::caseless::Caseless;
+use single::logical;
+use single::logical::Logical;
+use single::visual;
+use single::visual::Visual;
+use utf8;
+use utf8::Utf8;
+
+pub enum Machine {
+    Utf8(Utf8),
+    Iso2022Jp(Iso2022Jp),
+    EucKr(EucKr),
+    Big5(Big5),
+    Caseless(Caseless),
+    Logical(Logical),
+    Visual(Visual),
+    ArabicFrench(ArabicFrench),
+}
+
+// The machine after a stretch of bytes or the end of the stream, and by how much its score changed; or it dropped out; or
+// its record, a lent length or the stretch was not fit to run.
+pub enum Ran {
+    Live(Machine, i64),
+    Dropped,
+    Unfit,
+}
+
+fn of_utf8(r: utf8::Ran) -> Ran
+    ensures { λ r2. ⌜ r2 ≡ ofUtf8 r ⌝ }
+{
+    match r {
+        utf8::Ran::Live(m) => Ran::Live(Machine::Utf8(m), 0),
+        utf8::Ran::Dropped => Ran::Dropped,
+        utf8::Ran::Unfit => Ran::Unfit,
+    }
+}
+
+fn of_iso2022jp(r: iso2022jp::Ran) -> Ran
+    ensures { λ r2. ⌜ r2 ≡ ofIso2022Jp r ⌝ }
+{
+    match r {
+        iso2022jp::Ran::Live(m) => Ran::Live(Machine::Iso2022Jp(m), 0),
+        iso2022jp::Ran::Dropped => Ran::Dropped,
+        iso2022jp::Ran::Unfit => Ran::Unfit,
+    }
+}
+
+fn of_euckr(r: euckr::Ran) -> Ran
+    ensures { λ r2. ⌜ r2 ≡ ofEucKr r ⌝ }
+{
+    match r {
+        euckr::Ran::Live(m, change) => Ran::Live(Machine::EucKr(m), change),
+        euckr::Ran::Dropped => Ran::Dropped,
+        euckr::Ran::Unfit => Ran::Unfit,
+    }
+}
+
+fn of_big5(r: big5::Ran) -> Ran
+    ensures { λ r2. ⌜ r2 ≡ ofBig5 r ⌝ }
+{
+    match r {
+        big5::Ran::Live(m, change) => Ran::Live(Machine::Big5(m), change),
+        big5::Ran::Dropped => Ran::Dropped,
+        big5::Ran::Unfit => Ran::Unfit,
+    }
+}
+
+fn of_caseless(r: caseless::Ran) -> Ran
+    ensures { λ r2. ⌜ r2 ≡ ofCaseless r ⌝ }
+{
+    match r {
+        caseless::Ran::Live(m, change) => Ran::Live(Machine::Caseless(m), change),
+        caseless::Ran::Dropped => Ran::Dropped,
+        caseless::Ran::Unfit => Ran::Unfit,
+    }
+}
+
+fn of_logical(r: logical::Ran) -> Ran
+    ensures { λ r2. ⌜ r2 ≡ ofLogical r ⌝ }
+{
+    match r {
+        logical::Ran::Live(m, change) => Ran::Live(Machine::Logical(m), change),
+        logical::Ran::Dropped => Ran::Dropped,
+        logical::Ran::Unfit => Ran::Unfit,
+    }
+}
+
+fn of_visual(r: visual::Ran) -> Ran
+    ensures { λ r2. ⌜ r2 ≡ ofVisual r ⌝ }
+{
+    match r {
+        visual::Ran::Live(m, change) => Ran::Live(Machine::Visual(m), change),
+        visual::Ran::Dropped => Ran::Dropped,
+        visual::Ran::Unfit => Ran::Unfit,
+    }
+}
+
+fn of_arabic_french(r: arabic_french::Ran) -> Ran
+    ensures { λ r2. ⌜ r2 ≡ ofArabicFrench r ⌝ }
+{
+    match r {
+        arabic_french::Ran::Live(m, change) => Ran::Live(Machine::ArabicFrench(m), change),
+        arabic_french::Ran::Dropped => Ran::Dropped,
+        arabic_french::Ran::Unfit => Ran::Unfit,
+    }
+}
+
+impl Machine {
+    // The number of the place that holds machines of this kind.
+    pub fn kind(self) -> usize
+        ensures { λ r. ⌜ r ≡ kindOf self ⌝ }
+    {
+        match self {
+            Machine::Utf8(_) => 0,
+            Machine::Iso2022Jp(_) => 1,
+            Machine::EucKr(_) => 2,
+            Machine::Big5(_) => 3,
+            Machine::Caseless(_) => 4,
+            Machine::Logical(_) => 5,
+            Machine::Visual(_) => 6,
+            Machine::ArabicFrench(_) => 7,
+        }
+    }
+
+    // The fresh machine of the same kind.
+    pub fn renewed(self) -> Machine
+        ensures { λ r. ⌜ r ≡ freshIn self ⌝ }
+    {
+        match self {
+            Machine::Utf8(_) => Machine::Utf8(Utf8::fresh()),
+            Machine::Iso2022Jp(_) => Machine::Iso2022Jp(Iso2022Jp::fresh()),
+            Machine::EucKr(_) => Machine::EucKr(EucKr::fresh()),
+            Machine::Big5(_) => Machine::Big5(Big5::fresh()),
+            Machine::Caseless(_) => Machine::Caseless(Caseless::fresh()),
+            Machine::Logical(_) => Machine::Logical(Logical::fresh()),
+            Machine::Visual(_) => Machine::Visual(Visual::fresh()),
+            Machine::ArabicFrench(_) => Machine::ArabicFrench(ArabicFrench::fresh()),
+        }
+    }
+
+    // A stretch of bytes: each kind is lent its own tables.
+    pub fn run(
+        self,
+        part: &[u8],
+        classes4: &[u8],
+        marks4: &[u8],
+        pairs4: &[i16],
+        classes5: &[u8],
+        marks5: &[u8],
+        pairs5: &[i16],
+        classes6: &[u8],
+        marks6: &[u8],
+        pairs6: &[i16],
+        classes7: &[u8],
+        marks7: &[u8],
+        pairs7: &[i16],
+        big5: &[u32],
+        euckr: &[u32],
+        jis: &[u32],
+        extras: &[i16],
+        weights: &[i32],
+    ) -> Ran
+        ensures { λ r. ⌜ r ≡ ranOf (tables (singles (single (now (classes4 .entry)) (now (marks4 .entry)) (now (pairs4 .entry))) (single (now (classes5 .entry)) (now (marks5 .entry)) (now (pairs5 .entry))) (single (now (classes6 .entry)) (now (marks6 .entry)) (now (pairs6 .entry))) (single (now (classes7 .entry)) (now (marks7 .entry)) (now (pairs7 .entry)))) (now (big5 .entry)) (now (euckr .entry)) (now (jis .entry)) (now (extras .entry)) (now (weights .entry))) self (now (part .entry)) ⌝ }
+        ensures { λ r. ⌜ Small (perByte * length (now (part .entry))) r ⌝ }
+        ensures { λ r. ⌜ Weighed self (now (weights .entry)) r ⌝ }
+    {
+        match self {
+            Machine::Utf8(m) => of_utf8(m.run(part)),
+            Machine::Iso2022Jp(m) => of_iso2022jp(m.run(part, jis)),
+            Machine::EucKr(m) => of_euckr(m.run(part, euckr, extras, weights)),
+            Machine::Big5(m) => of_big5(m.run(part, big5, weights)),
+            Machine::Caseless(m) => of_caseless(m.run(part, classes4, marks4, pairs4, weights)),
+            Machine::Logical(m) => of_logical(m.run(part, classes5, marks5, pairs5, weights)),
+            Machine::Visual(m) => of_visual(m.run(part, classes6, marks6, pairs6, weights)),
+            Machine::ArabicFrench(m) => of_arabic_french(m.run(
+                part,
+                classes7,
+                marks7,
+                pairs7,
+                weights,
+            )),
+        }
+    }
+
+    // The end of the stream.
+    pub fn close(
+        self,
+        classes4: &[u8],
+        marks4: &[u8],
+        pairs4: &[i16],
+        classes5: &[u8],
+        marks5: &[u8],
+        pairs5: &[i16],
+        classes6: &[u8],
+        marks6: &[u8],
+        pairs6: &[i16],
+        classes7: &[u8],
+        marks7: &[u8],
+        pairs7: &[i16],
+        weights: &[i32],
+    ) -> Ran
+        ensures { λ r. ⌜ r ≡ closedOf (singles (single (now (classes4 .entry)) (now (marks4 .entry)) (now (pairs4 .entry))) (single (now (classes5 .entry)) (now (marks5 .entry)) (now (pairs5 .entry))) (single (now (classes6 .entry)) (now (marks6 .entry)) (now (pairs6 .entry))) (single (now (classes7 .entry)) (now (marks7 .entry)) (now (pairs7 .entry)))) (now (weights .entry)) self ⌝ }
+        ensures { λ r. ⌜ Small perByte r ⌝ }
+    {
+        match self {
+            Machine::Utf8(m) => of_utf8(m.close()),
+            Machine::Iso2022Jp(m) => of_iso2022jp(m.close()),
+            Machine::EucKr(m) => of_euckr(m.close()),
+            Machine::Big5(m) => of_big5(m.close()),
+            Machine::Caseless(m) => of_caseless(m.close(classes4, marks4, pairs4, weights)),
+            Machine::Logical(m) => of_logical(m.close(classes5, marks5, pairs5, weights)),
+            Machine::Visual(m) => of_visual(m.close(classes6, marks6, pairs6, weights)),
+            Machine::ArabicFrench(m) => of_arabic_french(m.close(
+                classes7,
+                marks7,
+                pairs7,
+                weights,
+            )),
+        }
+    }
+}
