@@ -52,6 +52,12 @@ Bounded c (Live m s) = natAbs s ≤ c
 Bounded c Dropped = Unit {0}
 Bounded c Unfit = Unit {0}
 
+-- a live answer came of weights of 32 bits
+abbrev pub Weighed : List ℤ → Ran → Type 0
+Weighed weights (Live m s) = Small (scaleOf weights)
+Weighed weights Dropped = Unit {0}
+Weighed weights Unfit = Unit {0}
+
 -- ---- a run and a close
 -- the record is one that Big5 can hold, the part no longer than a stream, the lent lengths exact
 unfoldable pub readyB : List ℕ → List ℤ → Big5 → List ℕ → Bool

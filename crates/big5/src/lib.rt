@@ -10,7 +10,7 @@ ghost use Rattle.laws.specs.Limit.{limit};
 ghost use Rattle.weights.specs.Weights.{term, perByte, weightCount};
 ghost use Rattle.big5.specs.Standard.{entries, isTrail, pointerOf, isMapped, entryOf, pairOf, decodeOf, replyOf};
 ghost use Rattle.big5.specs.Scoring.{scaleOf, isHanzi, isDistinct, besideOf, holdsOf, hanziWeight, letterOf, hanziOf, otherOf, unitOf, pointOf, unmappedOf, extensionOf, isPair, isExtension, after as afterOf, strayOf, errorOf, onEvent, lent, freshOf, stepOf, scored};
-ghost use Rattle.big5.specs.Big5.{Sound, soundB, Small, outOf, ranAs, Bounded, readyB, Ready, ranOf, closedOf};
+ghost use Rattle.big5.specs.Big5.{Sound, soundB, Small, outOf, ranAs, Bounded, Weighed, readyB, Ready, ranOf, closedOf};
 use pairs::Decoded;
 use pairs::Event;
 use pairs::Held;
@@ -547,6 +547,7 @@ impl Big5 {
     pub fn run(self, part: &[u8], index: &[u32], weights: &[i32]) -> Ran
         ensures { λ r. ⌜ r ≡ ranOf (now (index .entry)) (now (weights .entry)) self (now (part .entry)) ⌝ }
         ensures { λ r. ⌜ Bounded (perByte * length (now (part .entry))) r ⌝ }
+        ensures { λ r. ⌜ Weighed (now (weights .entry)) r ⌝ }
     {
         if is_ready(self, part, index, weights) {
             return self.go(part, index, Scale::read(weights));

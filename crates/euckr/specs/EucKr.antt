@@ -61,6 +61,12 @@ Bounded c (Live m s) = natAbs s ≤ c
 Bounded c Dropped = Unit {0}
 Bounded c Unfit = Unit {0}
 
+-- a live answer came of weights of 32 bits
+abbrev pub Weighed : List ℤ → Ran → Type 0
+Weighed weights (Live m s) = Small (scaleOf weights)
+Weighed weights Dropped = Unit {0}
+Weighed weights Unfit = Unit {0}
+
 -- ---- a run and a close
 abbrev pub lentB : List ℕ → List ℤ → List ℤ → Bool
 lentB index extras weights = eqb (length index) entries && (eqb (length extras) extraCount && eqb (length weights) weightCount)

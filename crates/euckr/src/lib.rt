@@ -11,7 +11,7 @@ ghost use Rattle.laws.specs.Limit.{limit, room};
 ghost use Rattle.weights.specs.Weights.{term, perByte, weightCount};
 ghost use Rattle.euckr.specs.Standard.{entries, isTrail, pointerOf, isMapped, pairOf, decodeOf, replyOf};
 ghost use Rattle.euckr.specs.Scoring.{scaleOf, extraCount, extraOf, isEuc, isHangul, isHanja, hangulAfter, hanjaAfter, letterAfter, longOf, holdsOf, scored, letterOf, aroundOf, innerOf, outerOf, hangulOf, hanjaOf, otherOf, unitOf, isUserPair, isMacLead, isMacSymbol, isExtension, isLone, extensionOf, after as afterOf, pendingOf, strayOf, errorOf, lent, freshOf, stepOf};
-ghost use Rattle.euckr.specs.EucKr.{Sound, soundB, Small, outOf, ranAs, Slight, Bounded, lentB, readyB, ranOf, closedOf};
+ghost use Rattle.euckr.specs.EucKr.{Sound, soundB, Small, outOf, ranAs, Slight, Bounded, Weighed, lentB, readyB, ranOf, closedOf};
 ghost use Rattle.euckr.specs.declared.LatinKorean.the-variants.{Other};
 use pairs::Decoded;
 use pairs::Event;
@@ -656,6 +656,7 @@ impl EucKr {
     pub fn run(self, part: &[u8], index: &[u32], extras: &[i16], weights: &[i32]) -> Ran
         ensures { λ r. ⌜ r ≡ ranOf (now (index .entry)) (now (extras .entry)) (now (weights .entry)) self (now (part .entry)) ⌝ }
         ensures { λ r. ⌜ Bounded (perByte * length (now (part .entry))) r ⌝ }
+        ensures { λ r. ⌜ Weighed (now (weights .entry)) r ⌝ }
     {
         if is_ready(self, part, index, extras, weights) {
             return self.go(part, index, extras, Scale::read(weights));
