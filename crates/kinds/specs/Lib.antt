@@ -1,5 +1,6 @@
 pub mod Fresh
 pub mod FreshLaws
+pub mod KindLaws
 pub mod Kinds
 pub mod KindsLaws
 pub mod Sound

@@ -1,5 +1,5 @@
 // Two tests as one.
-ghost use mathlib.Core.Bool.{_&&_};
+ghost use mathlib.Core.Bool.{_&&_, _||_};
 ghost use mathlib.Core.Path.{_≡_};
 
 pub fn both(a: bool, b: bool) -> bool
@@ -9,4 +9,13 @@ pub fn both(a: bool, b: bool) -> bool
         return b;
     }
     false
+}
+
+pub fn either(a: bool, b: bool) -> bool
+    ensures { λ r. ⌜ r ≡ (a || b) ⌝ }
+{
+    if a {
+        return true;
+    }
+    b
 }
