@@ -1,5 +1,6 @@
 // Which place leads.
 ghost use mathlib.Core.Path.{_≡_};
+ghost use Rattle.detector.specs.Leader.{betterOf, leaderOf};
 use crate::state::State;
 use places::place::Score;
 use places::slate::PLACES;
@@ -11,13 +12,15 @@ pub enum Leader {
     Place(usize),
 }
 
-// The score that leads so far, and where.
-enum Best {
+// The greatest score so far, and where it stands first.
+pub(crate) enum Best {
     None,
     Score(usize, i64),
 }
 
-fn better(best: Best, k: usize, score: Score) -> Best {
+fn better(best: Best, k: usize, score: Score) -> Best
+    ensures { λ r. ⌜ r ≡ betterOf best k score ⌝ }
+{
     let Score::Live(n) = score else {
         return best;
     };
@@ -32,7 +35,9 @@ fn better(best: Best, k: usize, score: Score) -> Best {
     }
 }
 
-pub fn leader(state: State) -> Leader {
+pub fn of(state: State) -> Leader
+    ensures { λ r. ⌜ r ≡ leaderOf state ⌝ }
+{
     let front = state.front;
     let places = state.places;
     if !front.is_triggered() {

@@ -241,6 +241,7 @@ module _ (s : Singles) (w : List ℤ) where
         scored = scored-more n (reachOf (p .machine) n true) (p .machine) (p .score) (reach-more (p .machine) n n true (omega arith)) (rw (reach-open (p .machine) n) at (o .scored));
         fed-or = tt;
       }
+
   end-at : (n k : ℕ) (p : Place) → PlaceFor n false true k p → SmallOut perByte (closeOf s w (p .machine)) → (c : Score) → p .score ≡ c → PlaceFor n true true k (endFrom s w p c)
   unfolding endFrom
   end-at n k p o q None e = end-passed n k p o

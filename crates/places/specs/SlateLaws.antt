@@ -3,7 +3,7 @@ use mathlib.Core.Path.{_≡_, refl, sym, ap, _∙_}
 use mathlib.Core.Bool.{Bool, true, false, cond, _&&_}
 use mathlib.Core.List.{List, [], _∷_, map}
 use Prim.Native.Nat.{ℕ, zero, suc, _+_, _*_, _/_, _%_, _≤_, _<_}
-use native.Mathlib.Nat.{not-suc-le-zero, zero-add}
+use native.Mathlib.Nat.{not-suc-le-zero, zero-add, add-zero}
 use native.Mathlib.Numerals.{add-one}
 use native.Mathlib.Omega.{arith}
 use lib.Dec.{eqb, leb}
@@ -80,6 +80,25 @@ place-more n m fed h k p o =
 pub slate-more : (n m : ℕ) (fed : Bool) (ps : List Place) → n ≤ m → m ≤ limit → SlateFor n false fed ps → SlateFor m false true ps
 slate-more n m fed ps h l o = record { most = l; each = each-weaken (PlaceFor n false fed) (PlaceFor m false true) (place-more n m fed h) 0 ps (o .each) }
 
+-- ---- places that were not fed yet stay so, whatever the stream has
+zero-scored : (n : ℕ) (m : Machine) (c : Score) → m ≡ freshIn m → ZeroOrNone c → ScoredFor n m c
+zero-scored n m None e z = e
+zero-scored n m (Live s) e z = rw z (omega arith)
+
+unfed-for : (n m : ℕ) (closed fed : Bool) (k : ℕ) (p : Place) → FedOr fed p → PlaceFor n false false k p → PlaceFor m closed fed k p
+unfed-for n m closed fed k p f o =
+    let x = p .machine in
+    let e = o .fed-or .0 in
+    record {
+      kind = o .kind;
+      sound = rw (sym e) at (fresh-sound m (reachOf x m closed) x);
+      scored = zero-scored (reachOf x m closed) x (p .score) e (o .fed-or .1);
+      fed-or = f;
+    }
+
+pub slate-still : (n m : ℕ) (closed : Bool) (ps : List Place) → m ≤ limit → SlateFor n false false ps → SlateFor m closed false ps
+slate-still n m closed ps l o = record { most = l; each = each-weaken (PlaceFor n false false) (PlaceFor m closed false) (λ (k : ℕ) (p : Place) (q : PlaceFor n false false k p). unfed-for n m closed false k p (q .fed-or) q) 0 ps (o .each) }
+
 -- ---- fitness
 module _ (t : Tables) (xs : List ℕ) (ps : List Place) where
   pub record Fit : Type 0 where
@@ -119,6 +138,13 @@ fed-slate t last fed xs n ps h f o =
 -- the same of what the code answered
 pub fed-kept : (t : Tables) (last : Bool) (xs : List ℕ) (ps qs : List Place) (r : Slated) → r ≡ slated true qs → KeptIf (r .fit) t last xs ps → AllKept t last xs ps
 fed-kept t last xs ps qs r e h = rw e at h
+
+nil-kept-at : (t : Tables) (p : Place) → Kept t false [] p
+nil-kept-at t p = record { kept = λ (n k : ℕ) h o. rw (feed-nil t p, add-zero) o }
+
+pub nil-kept : (t : Tables) (k : ℕ) (ps : List Place) → EachFrom (λ (j : ℕ) (p : Place). Kept t false [] p) k ps
+nil-kept t k [] = tt
+nil-kept t k (p ∷ ps) = (nil-kept-at t p, nil-kept t (suc k) ps)
 
 -- an empty part that is not the last one leaves all as it is
 pub feed-all-nil : (t : Tables) (ps : List Place) → feedAll t false [] ps ≡ ps

@@ -17,13 +17,13 @@ add-result c = search needs
 
 returns : tie.Need-returns
 unfolding reachOf
-returns c = 
+returns c =
     let e : (c .before .before .before .args .closed && takesSpace (c .before .before .before .args .machine)) ≡ true = rw (c .before .before .takes-space .ensures) at (sym (c .before .both .ensures) ∙ c .if1 .taken) in
     rw e
 
 returns-2 : tie.Need-returns-2
 unfolding reachOf
-returns-2 c = 
+returns-2 c =
     let e : (c .before .before .before .args .closed && takesSpace (c .before .before .before .args .machine)) ≡ false = rw (c .before .before .takes-space .ensures) at (sym (c .before .both .ensures) ∙ c .if1 .left) in
     rw e
 

@@ -33,18 +33,18 @@ both-requires-2 : tie.Need-both-requires-2
 both-requires-2 c κs = search needs
 
 feed-each-requires : tie.Need-feed-each-requires
-feed-each-requires c κs = 
+feed-each-requires c κs =
     let f = fit (c .before) (c .if1 .taken) in
     (f .sized, (f .slate, f .short))
 
 returns : tie.Need-returns
-returns c = 
+returns c =
     let s = c .before .before .before .before .before .before .before .before .before .before .before .before .before .before .before .before .before .before in
     let e : fitB (lent s) (s .args .part .now) (s .args .places) ≡ true = sym (tested (c .before .before)) ∙ c .before .if1 .taken in
     (rw (c .feed-each .ensures .0, c .before .if1 .taken) (slated-at (lent s) (s .args .part .now) (s .args .places) (s .args .last) true e), rw (c .before .if1 .taken) (c .feed-each .ensures .1))
 
 returns-2 : tie.Need-returns-2
-returns-2 c = 
+returns-2 c =
     let s = c .before .before .before .before .before .before .before .before .before .before .before .before .before .before .before .before .before in
     let e : fitB (lent s) (s .args .part .now) (s .args .places) ≡ false = sym (tested (c .before)) ∙ c .if1 .left in
     (rw (c .if1 .left) (slated-at (lent s) (s .args .part .now) (s .args .places) (s .args .last) false e), rw (c .if1 .left) tt)

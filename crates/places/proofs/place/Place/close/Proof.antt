@@ -22,7 +22,7 @@ enum-told : tie.Need-enum-told
 enum-told c = search needs
 
 returns : tie.Need-returns
-returns c = 
+returns c =
     let s = c .before .before .before .before .before .before .before .before .before .before in
     let e = c .enum-told .given .1 in
     (end-none (lent s) (s .args .weights .now) (s .args .self) e, ended-none (lent s) (s .args .weights .now) (s .args .self) e)
@@ -31,13 +31,13 @@ close-requires : tie.Need-close-requires
 close-requires c κs = search needs
 
 settled-requires : tie.Need-settled-requires
-settled-requires c κs = 
+settled-requires c κs =
     let z = c .before .before .score .given .0 .0 in
     let h : natAbs (c .before .before .score .given .0 .0) ≤ 2 * perByte * limit = rw (c .before .before .score .given .1) at (c .before .before .before .before .before .before .before .before .before .before .before .before .pre .small) in
     rw (thru w64 z (search needs)) (fit-sum z (c .close .result) perByte (c .close .ensures .1) (omega (arith, h)))
 
 returns-2 : tie.Need-returns-2
-returns-2 c = 
+returns-2 c =
     let s = c .before .before .before .before .before .before .before .before .before .before .before .before .before in
     let z = c .before .before .before .score .given .0 .0 in
     let r = c .before .close in

@@ -31,7 +31,7 @@ enum-told : tie.Need-enum-told
 enum-told c = search needs
 
 returns : tie.Need-returns
-returns c = 
+returns c =
     let s = c .before .before .before .before .before .before .before .before .before .before .before .before .before .before in
     let e = c .enum-told .given .1 in
     (feed-none (lent s) (s .args .part .now) (s .args .self) (s .args .last) e, kept-none (lent s) (s .args .part .now) (s .args .self) (s .args .last) e)
@@ -40,23 +40,23 @@ run-requires : tie.Need-run-requires
 run-requires c κs = search needs
 
 settled-requires : tie.Need-settled-requires
-settled-requires c κs = 
+settled-requires c κs =
     let s = c .before .before .before .before .before .before .before .before .before .before .before .before .before .before .before .before in
     let z = c .before .before .score .given .0 .0 in
     rw (thru w64 z (search needs)) (fit-sum z (c .run .result) (perByte * length (s .args .part .now)) (c .run .ensures .1 .0) (sum-room (lent s) (s .args .part .now) (s .args .self) (s .pre) z (c .before .before .score .given .1)))
 
 close-requires : tie.Need-close-requires
-close-requires c κs = 
+close-requires c κs =
     let s = c .before .before .before .before .before .before .before .before .before .before .before .before .before .before .before .before .before .before in
     last-fit (lent s) (s .args .part .now) (s .args .self) (s .pre) (value (c .before)) (c .before .before .before .before .score .given .1) (c .before .settled .result) (fed (c .before))
 
 returns-2 : tie.Need-returns-2
-returns-2 c = 
+returns-2 c =
     let s = c .before .before .before .before .before .before .before .before .before .before .before .before .before .before .before .before .before .before .before in
     last-way (lent s) (s .args .part .now) (s .args .self) (s .pre) (value (c .before .before)) (c .before .before .before .before .before .score .given .1) (c .before .before .settled .result) (fed (c .before .before)) (s .args .last) (c .close .result) (c .before .if1 .taken) (c .close .ensures .0) (c .close .ensures .1)
 
 returns-3 : tie.Need-returns-3
-returns-3 c = 
+returns-3 c =
     let s = c .before .before .before .before .before .before .before .before .before .before .before .before .before .before .before .before .before .before in
     open-way (lent s) (s .args .part .now) (s .args .self) (s .pre) (value (c .before)) (c .before .before .before .before .score .given .1) (c .before .settled .result) (fed (c .before)) (s .args .last) (c .if1 .left)
 
