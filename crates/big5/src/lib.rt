@@ -198,13 +198,13 @@ impl Scale {
         ensures { λ r. ⌜ Small r ⌝ }
     {
         Scale {
-            adjacency: pairs::weight(weights, weights::CJK_LATIN_ADJACENCY),
-            punctuation: pairs::weight(weights, weights::CJ_PUNCTUATION),
-            other: pairs::weight(weights, weights::CJK_OTHER),
-            level1: pairs::weight(weights, weights::BIG5_LEVEL_1),
-            hanzi: pairs::weight(weights, weights::BIG5_OTHER),
-            pua: pairs::weight(weights, weights::BIG5_PUA),
-            extension: pairs::weight(weights, weights::BIG5_EXTENSION),
+            adjacency: weights::weight(weights, weights::CJK_LATIN_ADJACENCY),
+            punctuation: weights::weight(weights, weights::CJ_PUNCTUATION),
+            other: weights::weight(weights, weights::CJK_OTHER),
+            level1: weights::weight(weights, weights::BIG5_LEVEL_1),
+            hanzi: weights::weight(weights, weights::BIG5_OTHER),
+            pua: weights::weight(weights, weights::BIG5_PUA),
+            extension: weights::weight(weights, weights::BIG5_EXTENSION),
         }
     }
 

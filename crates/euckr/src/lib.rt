@@ -194,16 +194,16 @@ impl Scale {
         ensures { λ r. ⌜ Small r ⌝ }
     {
         Scale {
-            adjacency: pairs::weight(weights, weights::CJK_LATIN_ADJACENCY),
-            other: pairs::weight(weights, weights::CJK_OTHER),
-            hangul: pairs::weight(weights, weights::EUC_HANGUL),
-            outer: pairs::weight(weights, weights::NON_EUC_HANGUL),
-            hanja: pairs::weight(weights, weights::HANJA),
-            mixed: pairs::weight(weights, weights::HANJA_AFTER_HANGUL),
-            pua: pairs::weight(weights, weights::EUC_KR_PUA),
-            mac: pairs::weight(weights, weights::MAC_KOREAN),
-            extension: pairs::weight(weights, weights::EUC_KR_EXTENSION),
-            long: pairs::weight(weights, weights::LONG_WORD),
+            adjacency: weights::weight(weights, weights::CJK_LATIN_ADJACENCY),
+            other: weights::weight(weights, weights::CJK_OTHER),
+            hangul: weights::weight(weights, weights::EUC_HANGUL),
+            outer: weights::weight(weights, weights::NON_EUC_HANGUL),
+            hanja: weights::weight(weights, weights::HANJA),
+            mixed: weights::weight(weights, weights::HANJA_AFTER_HANGUL),
+            pua: weights::weight(weights, weights::EUC_KR_PUA),
+            mac: weights::weight(weights, weights::MAC_KOREAN),
+            extension: weights::weight(weights, weights::EUC_KR_EXTENSION),
+            long: weights::weight(weights, weights::LONG_WORD),
         }
     }
 

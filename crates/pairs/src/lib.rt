@@ -1,10 +1,6 @@
 // What Big5 and EUC-KR share: the frame of the Standard's pair decoders, and the held score.
 ghost use mathlib.Core.Path.{_≡_};
-ghost use Prim.Native.Nat.{_≤_};
-ghost use lib.IntN.{pos, natAbs};
-ghost use lib.ListN.{getD};
 ghost use Rattle.octets.specs.Octets.{letter};
-ghost use Rattle.weights.specs.Weights.{term};
 ghost use Rattle.pairs.specs.Pairs.{isLead, isLeadOrNone, malformedOf, firstOf, isHeldLead, releasedOf, smallHeldB};
 
 // What a decoder yields at a byte: nothing yet, one code point, two, or an error of so many bytes.
@@ -105,17 +101,6 @@ pub fn is_letter(u: u32) -> bool
         return false;
     }
     u < 0x7B
-}
-
-// A lent weight, or 0 where there is none.
-pub fn weight(weights: &[i32], k: usize) -> i64
-    ensures { λ r. ⌜ r ≡ getD (now (weights .entry)) k (pos 0) ⌝ }
-    ensures { λ r. ⌜ natAbs r ≤ term ⌝ }
-{
-    if k < weights.len() {
-        return weights[k] as i64;
-    }
-    0
 }
 
 impl Held {
