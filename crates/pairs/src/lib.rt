@@ -1,5 +1,7 @@
 // What Big5 and EUC-KR share: the frame of the Standard's pair decoders, and the held score.
 ghost use mathlib.Core.Path.{_≡_};
+ghost use Prim.Native.Nat.{_-_};
+ghost use lib.ListN.{getD};
 ghost use Rattle.octets.specs.Octets.{letter};
 ghost use Rattle.pairs.specs.Pairs.{isLead, isLeadOrNone, malformedOf, firstOf, isHeldLead, releasedOf, smallHeldB};
 
@@ -79,6 +81,26 @@ pub fn first(b: u8) -> Decoded
         lead: 0,
         event: Event::Error(1),
     }
+}
+
+// The rows of an index before a lead's own: 81 has the first.
+pub fn rows(lead: u8) -> usize
+    ensures { λ r. ⌜ r ≡ lead - 0x81 ⌝ }
+{
+    if lead < 0x81 {
+        return 0;
+    }
+    (lead - 0x81) as usize
+}
+
+// A lent entry, or 0 where there is none.
+pub fn entry(index: &[u32], at: usize) -> u32
+    ensures { λ r. ⌜ r ≡ getD (now (index .entry)) at 0 ⌝ }
+{
+    if at < index.len() {
+        return index[at];
+    }
+    0
 }
 
 // Whether a score is held after this byte.
