@@ -181,7 +181,11 @@ fn big5_lead(counts: Counts, lead: u8, index: &[u32], from: usize) -> Counts {
     let mut k: usize = 0;
     while k < 256 {
         let b = k as u8;
-        c = c.with(big5::decoded(lead, b, index), at, entry_at(index, at));
+        c = c.with(
+            big5_decoder::decoded(lead, b, index),
+            at,
+            entry_at(index, at),
+        );
         at = step(at, is_big5_trail(b));
         k += 1;
     }
@@ -194,7 +198,11 @@ fn euckr_lead(counts: Counts, lead: u8, index: &[u32], from: usize) -> Counts {
     let mut k: usize = 0;
     while k < 256 {
         let b = k as u8;
-        c = c.with(euckr::decoded(lead, b, index), at, entry_at(index, at));
+        c = c.with(
+            euckr_decoder::decoded(lead, b, index),
+            at,
+            entry_at(index, at),
+        );
         at = step(at, is_euckr_trail(b));
         k += 1;
     }

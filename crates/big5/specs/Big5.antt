@@ -10,7 +10,7 @@ use Rattle.laws.specs.Run.{Out, none, live, run}
 use Rattle.pairs.specs.Pairs.{isLeadOrNone, releasedOf, smallHeldB}
 use Rattle.laws.specs.Limit.{limit}
 use Rattle.weights.specs.Weights.{weightCount, term}
-use Rattle.big5.specs.Standard.{entries}
+use Rattle.big5_decoder.specs.Standard.{entries}
 use Rattle.big5.specs.Scoring.{lent, scaleOf, stepOf}
 use Rattle.big5.specs.declared.Big5.{Big5}
 use Rattle.big5.specs.declared.Scale.{Scale}

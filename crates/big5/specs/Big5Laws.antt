@@ -19,7 +19,7 @@ use Rattle.pairs.specs.declared.Event.the-variants.{Pending, Point, Two, Error}
 use Rattle.pairs.specs.declared.Held.the-variants.{Nothing, Score}
 use Rattle.laws.specs.Limit.{limit}
 use Rattle.weights.specs.Weights.{weightCount, term, perByte}
-use Rattle.big5.specs.Standard.{entries, pairOf, decodeOf}
+use Rattle.big5_decoder.specs.Standard.{entries, pairOf, decodeOf}
 use Rattle.big5.specs.Scoring.{scaleOf, isHanzi, isDistinct, besideOf, besideHanzi, scored, holdsOf, hanziWeight, letterOf, hanziOf, otherOf, unitOf, pointOf, unmappedOf, extensionOf, isPair, extends, after, strayOf, errorOf, onEvent, Lent, lent, stepOf}
 use Rattle.big5.specs.Big5.{Sound, soundB, Small, ranAs, Weighed, readyB, Ready, ranOf}
 use Rattle.big5.specs.Ways.{beside-small, hanzi-small}

@@ -10,7 +10,7 @@ use Rattle.laws.specs.Run.{none, live, plus, feed, run}
 use Rattle.pairs.specs.Pairs.{malformedOf, firstOf}
 use Rattle.pairs.specs.declared.Held.{Held}
 use Rattle.pairs.specs.declared.Held.the-variants.{Nothing}
-use Rattle.big5.specs.Standard.{isMapped, pointerOf, entryOf, yieldOf, pairOf, decodeOf}
+use Rattle.big5_decoder.specs.Standard.{isMapped, pointerOf, entryOf, yieldOf, pairOf, decodeOf}
 use Rattle.big5.specs.Scoring.{otherOf, unmappedOf, extensionOf, strayOf, errorOf, freshOf, Lent, stepOf}
 use Rattle.big5.specs.declared.Big5.{Big5}
 use Rattle.big5.specs.declared.LatinCj.{LatinCj}

@@ -1,16 +1,12 @@
 // One machine with its score, or none.
+use arabic_french::ArabicFrench;
+use caseless::Caseless;
 use iso2022jp;
 use iso2022jp::Iso2022Jp;
-use single::arabic_french;
-use single::arabic_french::ArabicFrench;
-use single::caseless;
-use single::caseless::Caseless;
-use single::logical;
-use single::logical::Logical;
-use single::visual;
-use single::visual::Visual;
+use logical::Logical;
 use utf8;
 use utf8::Utf8;
+use visual::Visual;
 
 pub(crate) enum Machine {
     Utf8(Utf8),

@@ -3,15 +3,15 @@ use crate::digest::Digest;
 use crate::number;
 use crate::place::Machine;
 use crate::place::Place;
+use arabic_french::ArabicFrench;
+use arabic_french::LatinCaseState;
+use caseless::Caseless;
 use iso2022jp::DecoderState;
 use iso2022jp::Iso2022Jp;
 use iso2022jp::OutputState;
-use single::arabic_french::ArabicFrench;
-use single::arabic_french::LatinCaseState;
-use single::caseless::Caseless;
-use single::logical::Logical;
-use single::visual::Visual;
+use logical::Logical;
 use utf8::Utf8;
+use visual::Visual;
 
 // The fields that are laid out alike for every place.
 struct Fields {

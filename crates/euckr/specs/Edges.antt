@@ -16,8 +16,8 @@ use Rattle.pairs.specs.Sequences.{first-lead}
 use Rattle.pairs.specs.declared.Event.the-variants.{Pending, Point}
 use Rattle.pairs.specs.declared.Held.{Held}
 use Rattle.pairs.specs.declared.Held.the-variants.{Nothing, Score}
-use Rattle.euckr.specs.Standard.{isTrail, pointerOf, isMapped, decodeOf}
-use Rattle.euckr.specs.StandardLaws.{is-mapped}
+use Rattle.euckr_decoder.specs.Standard.{isTrail, pointerOf, isMapped, decodeOf}
+use Rattle.euckr_decoder.specs.StandardLaws.{is-mapped}
 use Rattle.euckr.specs.Scoring.{extraOf, isEuc, isHangul, hangulAfter, longOf, scored, holdsOf, aroundOf, innerOf, outerOf, hangulOf, unitOf, extensionOf, after, strayOf, errorOf, freshOf, Lent, lent, stepOf}
 use Rattle.pairs.specs.Ranges.{range-true}
 use Rattle.euckr.specs.Ways.{step-on}

@@ -10,7 +10,7 @@ use Rattle.laws.specs.Run.{Out, none, live, run}
 use Rattle.pairs.specs.Pairs.{isLeadOrNone, releasedOf, smallHeldB}
 use Rattle.laws.specs.Limit.{limit, room}
 use Rattle.weights.specs.Weights.{weightCount, term, perByte}
-use Rattle.euckr.specs.Standard.{entries}
+use Rattle.euckr_decoder.specs.Standard.{entries}
 use Rattle.euckr.specs.Scoring.{extraCount, lent, scaleOf, stepOf}
 use Rattle.euckr.specs.declared.EucKr.{EucKr}
 use Rattle.euckr.specs.declared.Scale.{Scale}

@@ -19,7 +19,7 @@ use Rattle.pairs.specs.declared.Event.the-variants.{Pending, Point, Two, Error}
 use Rattle.pairs.specs.declared.Held.the-variants.{Nothing, Score}
 use Rattle.laws.specs.Limit.{limit, room}
 use Rattle.weights.specs.Weights.{weightCount, term, perByte}
-use Rattle.euckr.specs.Standard.{entries, pairOf, decodeOf}
+use Rattle.euckr_decoder.specs.Standard.{entries, pairOf, decodeOf}
 use Rattle.euckr.specs.Scoring.{scaleOf, extraCount, extraOf, isEuc, isHangul, isHanja, scored, holdsOf, letterOf, aroundOf, innerOf, outerOf, hangulOf, hanjaOf, otherOf, unitOf, isUserPair, isMacSymbol, isLone, extends, extensionOf, after, strayOf, errorOf, onEvent, Lent, lent, stepOf}
 use Rattle.euckr.specs.EucKr.{Sound, soundB, Small, Slight, ranAs, Weighed, readyB, Ready, ranOf}
 use Rattle.euckr.specs.Ways.{gain-pick, letter-small, hangul-small, hanja-small, other-small}
