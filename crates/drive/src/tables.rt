@@ -5,65 +5,71 @@ ghost use mathlib.Core.Path.{_≡_};
 use crate::number;
 use libc::STDIN_FILENO;
 
-// The tables of the four places, one after the other in each array.
+// The tables of the four single-byte places, one after the other in each array; after their pair scores the Hangul extras;
+// the Big5, EUC-KR and JIS X 0208 indexes in one array, as they come.
 pub(crate) fn read_all(
     classes: &mut [u8],
     marks: &mut [u8],
-    pairs: &mut [i16],
+    scores: &mut [i16],
     weights: &mut [i32],
-    jis: &mut [u32],
+    indexes: &mut [u32],
 ) -> bool
-    requires { ⌜ (length (now classes) ≡ 1024) × ((length (now marks) ≡ 512) × (length (now pairs) ≡ 65536)) ⌝ }
+    requires { ⌜ (length (now classes) ≡ 1024) × ((length (now marks) ≡ 512) × (length (now scores) ≡ 76708)) ⌝ }
 {
-    if !read_place(0, classes, marks, pairs) {
+    if !read_places(classes, marks, scores) {
         return false;
     }
-    if !read_place(1, classes, marks, pairs) {
+    read_rest(scores, weights, indexes)
+}
+
+fn read_places(classes: &mut [u8], marks: &mut [u8], scores: &mut [i16]) -> bool
+    requires { ⌜ (length (now classes) ≡ 1024) × ((length (now marks) ≡ 512) × (length (now scores) ≡ 76708)) ⌝ }
+{
+    if !read_place(0, classes, marks, scores) {
         return false;
     }
-    if !read_place(2, classes, marks, pairs) {
+    if !read_place(1, classes, marks, scores) {
         return false;
     }
-    if !read_place(3, classes, marks, pairs) {
+    if !read_place(2, classes, marks, scores) {
         return false;
     }
-    read_rest(weights, jis)
+    read_place(3, classes, marks, scores)
 }
 
 // What follows the four places' tables.
-fn read_rest(weights: &mut [i32], jis: &mut [u32]) -> bool {
-    if !skip(24) {
+fn read_rest(scores: &mut [i16], weights: &mut [i32], indexes: &mut [u32]) -> bool
+    requires { ⌜ length (now scores) ≡ 76708 ⌝ }
+{
+    if !read_indexes(indexes) {
         return false;
     }
-    if !read_jis(jis) {
-        return false;
-    }
-    if !skip_extras() {
+    if !read_extras(scores) {
         return false;
     }
     read_weights(weights)
 }
 
-fn read_place(k: usize, classes: &mut [u8], marks: &mut [u8], pairs: &mut [i16]) -> bool
+fn read_place(k: usize, classes: &mut [u8], marks: &mut [u8], scores: &mut [i16]) -> bool
     requires { ⌜ k < 4 ⌝ }
-    requires { ⌜ (length (now classes) ≡ 1024) × ((length (now marks) ≡ 512) × (length (now pairs) ≡ 65536)) ⌝ }
+    requires { ⌜ (length (now classes) ≡ 1024) × ((length (now marks) ≡ 512) × (length (now scores) ≡ 76708)) ⌝ }
 {
     let mut bytes = [0u8; 33152];
     let n = io::read_full(STDIN_FILENO, &mut bytes);
-    fill(&bytes[..n], k, classes, marks, pairs)
+    fill(&bytes[..n], k, classes, marks, scores)
 }
 
 // A place's bytes go to its part of each array.
-fn fill(bytes: &[u8], k: usize, classes: &mut [u8], marks: &mut [u8], pairs: &mut [i16]) -> bool
+fn fill(bytes: &[u8], k: usize, classes: &mut [u8], marks: &mut [u8], scores: &mut [i16]) -> bool
     requires { ⌜ k < 4 ⌝ }
-    requires { ⌜ (length (now classes) ≡ 1024) × ((length (now marks) ≡ 512) × (length (now pairs) ≡ 65536)) ⌝ }
+    requires { ⌜ (length (now classes) ≡ 1024) × ((length (now marks) ≡ 512) × (length (now scores) ≡ 76708)) ⌝ }
 {
     if bytes.len() != 33152 {
         return false;
     }
     copy(&bytes[..256], &mut classes[256 * k..256 * k + 256]);
     copy(&bytes[256..384], &mut marks[128 * k..128 * k + 128]);
-    halves(&bytes[384..], &mut pairs[16384 * k..16384 * k + 16384]);
+    halves(&bytes[384..], &mut scores[16384 * k..16384 * k + 16384]);
     true
 }
 
@@ -102,37 +108,26 @@ fn read_weights(weights: &mut [i32]) -> bool {
     true
 }
 
-// Passes over 7,287 bytes.
-fn skip_piece() -> bool {
-    let mut bytes = [0u8; 7287];
-    io::read_full(STDIN_FILENO, &mut bytes) == 7287
-}
-
-// Passes over that many pieces; the Big5 and the EUC-KR index are 24.
-fn skip(pieces: usize) -> bool {
-    let mut i: usize = 0;
-    while i < pieces {
-        if !skip_piece() {
-            return false;
-        }
-        i += 1;
+// The Hangul extras, which stand after the pair scores.
+fn read_extras(scores: &mut [i16]) -> bool
+    requires { ⌜ length (now scores) ≡ 76708 ⌝ }
+{
+    let mut bytes = [0u8; 22344];
+    let n = io::read_full(STDIN_FILENO, &mut bytes);
+    if n != 22344 {
+        return false;
     }
+    halves(&bytes[..n], &mut scores[65536..]);
     true
 }
 
-// Passes over the Hangul extras.
-fn skip_extras() -> bool {
-    let mut bytes = [0u8; 22344];
-    io::read_full(STDIN_FILENO, &mut bytes) == 22344
-}
-
-fn read_jis(jis: &mut [u32]) -> bool {
-    let mut bytes = [0u8; 35344];
+fn read_indexes(indexes: &mut [u32]) -> bool {
+    let mut bytes = [0u8; 210232];
     let n = io::read_full(STDIN_FILENO, &mut bytes);
-    if n != 35344 {
+    if n != 210232 {
         return false;
     }
-    words(&bytes[..n], jis);
+    words(&bytes[..n], indexes);
     true
 }
 

@@ -17,11 +17,11 @@ returns c = search needs
 array-share-prefix-bytes : tie.Need-array-share-prefix-bytes
 array-share-prefix-bytes c = search needs
 
-slice-aggregate-whole-stream : tie.Need-slice-aggregate-whole-stream
-slice-aggregate-whole-stream c = simp length-take (omega (arith, c .before .before .before .before .read-part .kept .0))
+slice-aggregate-part : tie.Need-slice-aggregate-part
+slice-aggregate-part c = simp length-take (omega (arith, c .before .before .before .read-part .kept .0))
 
-whole-stream-requires : tie.Need-whole-stream-requires
-whole-stream-requires c κs = search needs
+one-stream-requires : tie.Need-one-stream-requires
+one-stream-requires c κs = search needs
 
 print-requires : tie.Need-print-requires
 print-requires c κs = search needs
@@ -29,17 +29,11 @@ print-requires c κs = search needs
 returns-2 : tie.Need-returns-2
 returns-2 c = search needs
 
-array-share-prefix-bytes-2 : tie.Need-array-share-prefix-bytes-2
-array-share-prefix-bytes-2 c = search needs
+whole-stream-requires : tie.Need-whole-stream-requires
+whole-stream-requires c κs = search needs
 
-slice-aggregate-one-stream : tie.Need-slice-aggregate-one-stream
-slice-aggregate-one-stream c = simp length-take (omega (arith, c .before .before .before .before .read-part .kept .0))
-
-one-stream-requires : tie.Need-one-stream-requires
-one-stream-requires c κs = search needs
-
-print-requires-2 : tie.Need-print-requires-2
-print-requires-2 c κs = search needs
+show-requires : tie.Need-show-requires
+show-requires c κs = search needs
 
 returns-3 : tie.Need-returns-3
 returns-3 c = search needs
@@ -52,12 +46,10 @@ read-bytes-spec =
     read-part-requires
     returns
     array-share-prefix-bytes
-    slice-aggregate-whole-stream
-    whole-stream-requires
+    slice-aggregate-part
+    one-stream-requires
     print-requires
     returns-2
-    array-share-prefix-bytes-2
-    slice-aggregate-one-stream
-    one-stream-requires
-    print-requires-2
+    whole-stream-requires
+    show-requires
     returns-3)
