@@ -104,8 +104,60 @@ fn show(command: usize, p: Place) {
     record::add(Digest::fresh(), p).print();
 }
 
-// A stream's bytes, of which the length is known, read from standard input.
-fn read_bytes(
+// A stream and what its command prints of it.
+fn run_stream(
+    start: Place,
+    command: usize,
+    part: &[u8],
+    close: bool,
+    classes: &[u8],
+    marks: &[u8],
+    scores: &[i16],
+    weights: &[i32],
+    index: &[u32],
+) {
+    if command == 0x4D {
+        one_stream(start, part, close, classes, marks, scores, weights, index).print();
+        return;
+    }
+    let end = whole_stream(start, part, close, classes, marks, scores, weights, index);
+    show(command, end);
+}
+
+// A short stream, read from standard input: filling a small buffer takes little time.
+fn read_short(
+    start: Place,
+    command: usize,
+    len: usize,
+    close: bool,
+    classes: &[u8],
+    marks: &[u8],
+    scores: &[i16],
+    weights: &[i32],
+    index: &[u32],
+) -> bool
+    requires { ⌜ len ≤ 256 ⌝ }
+{
+    let mut bytes = [0u8; 256];
+    if read_part(&mut bytes, len) < len {
+        return false;
+    }
+    let part = &bytes[0..len];
+    run_stream(
+        start,
+        command,
+        part,
+        close,
+        classes,
+        marks,
+        scores,
+        weights,
+        index,
+    );
+    true
+}
+
+fn read_long(
     start: Place,
     command: usize,
     len: usize,
@@ -122,13 +174,18 @@ fn read_bytes(
     if read_part(&mut bytes, len) < len {
         return false;
     }
-    let part = &bytes[..len];
-    if command == 0x4D {
-        one_stream(start, part, close, classes, marks, scores, weights, index).print();
-        return true;
-    }
-    let end = whole_stream(start, part, close, classes, marks, scores, weights, index);
-    show(command, end);
+    let part = &bytes[0..len];
+    run_stream(
+        start,
+        command,
+        part,
+        close,
+        classes,
+        marks,
+        scores,
+        weights,
+        index,
+    );
     true
 }
 
@@ -151,7 +208,20 @@ fn read_stream(
         return false;
     }
     let len = n as usize;
-    read_bytes(
+    if len < 256 {
+        return read_short(
+            start,
+            command,
+            len,
+            close,
+            classes,
+            marks,
+            scores,
+            weights,
+            index,
+        );
+    }
+    read_long(
         start,
         command,
         len,
@@ -262,7 +332,7 @@ fn name() -> bool {
     if read_part(&mut bytes, len) < len {
         return false;
     }
-    io::write_all(STDOUT_FILENO, &bytes[..len]);
+    io::write_all(STDOUT_FILENO, &bytes[0..len]);
     io::write_all(STDOUT_FILENO, b": ");
     true
 }
