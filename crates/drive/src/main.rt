@@ -1,6 +1,7 @@
 // Drives one machine alone and prints a digest of its records, or its last record in words: what `oracle drive --digest`
 // prints for the same input (oracle/README.md has the format).
 mod digest;
+mod input;
 mod number;
 mod place;
 mod record;
@@ -80,21 +81,6 @@ fn one_stream(
     d
 }
 
-// The next byte of the input, or 256 at its end.
-fn next_byte() -> usize {
-    let mut one = [0u8; 1];
-    if io::read_full(STDIN_FILENO, &mut one) != 1 {
-        return 256;
-    }
-    number::index(one[0])
-}
-
-fn read_part(buf: &mut [u8], len: usize) -> usize
-    requires { ⌜ len ≤ length (now buf) ⌝ }
-{
-    io::read_full(STDIN_FILENO, &mut buf[..len])
-}
-
 // What a stream's end prints: its line, or its digest.
 fn show(command: usize, p: Place) {
     if command == 0x4C {
@@ -139,7 +125,7 @@ fn read_short(
     requires { ⌜ len ≤ 256 ⌝ }
 {
     let mut bytes = [0u8; 256];
-    if read_part(&mut bytes, len) < len {
+    if input::part(&mut bytes, len) < len {
         return false;
     }
     let part = &bytes[0..len];
@@ -171,7 +157,7 @@ fn read_long(
     requires { ⌜ len ≤ 65536 ⌝ }
 {
     let mut bytes = [0u8; 65536];
-    if read_part(&mut bytes, len) < len {
+    if input::part(&mut bytes, len) < len {
         return false;
     }
     let part = &bytes[0..len];
@@ -198,7 +184,7 @@ fn read_stream(
     weights: &[i32],
     index: &[u32],
 ) -> bool {
-    let close = next_byte() == 1;
+    let close = input::byte() == 1;
     let mut size = [0u8; 4];
     if io::read_full(STDIN_FILENO, &mut size) != 4 {
         return false;
@@ -324,12 +310,12 @@ fn decoder_case(
 
 // Prints a name, which a line follows.
 fn name() -> bool {
-    let len = next_byte();
+    let len = input::byte();
     let mut bytes = [0u8; 256];
     if 255 < len {
         return false;
     }
-    if read_part(&mut bytes, len) < len {
+    if input::part(&mut bytes, len) < len {
         return false;
     }
     io::write_all(STDOUT_FILENO, &bytes[0..len]);
@@ -361,7 +347,7 @@ fn turn(
     if !is_case(command) {
         return false;
     }
-    let place = next_byte();
+    let place = input::byte();
     if command == 0x4C {
         if !sheet::head(place) {
             return false;
@@ -382,7 +368,7 @@ fn cases(classes: &[u8], marks: &[u8], scores: &[i16], weights: &[i32], indexes:
 {
     let mut count: usize = 0;
     while count < 10000000 {
-        let command = next_byte();
+        let command = input::byte();
         if command == 256 {
             return false;
         }

@@ -13,25 +13,8 @@ fn say(words: &[u8]) {
     io::write_all(STDOUT_FILENO, words);
 }
 
-// A small letter or a figure for a number below 16.
-fn digit(n: u8) {
-    if n < 10 {
-        io::print_decimal(STDOUT_FILENO, n as u64);
-        return;
-    }
-    match n {
-        10 => say(b"a"),
-        11 => say(b"b"),
-        12 => say(b"c"),
-        13 => say(b"d"),
-        14 => say(b"e"),
-        _ => say(b"f"),
-    }
-}
-
 fn byte(b: u8) {
-    digit(b / 16);
-    digit(b % 16);
+    io::print_hex(STDOUT_FILENO, b as u64, 2);
 }
 
 fn score(s: i64) {

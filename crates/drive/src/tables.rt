@@ -2,6 +2,7 @@
 ghost use Prim.Native.Nat.{_+_, _*_, _<_, _≤_};
 ghost use lib.ListN.{length};
 ghost use mathlib.Core.Path.{_≡_};
+use crate::input;
 use crate::number;
 use libc::STDIN_FILENO;
 
@@ -44,41 +45,36 @@ fn read_rest(scores: &mut [i16], weights: &mut [i32], indexes: &mut [u32]) -> bo
     if !read_indexes(indexes) {
         return false;
     }
-    if !read_extras(scores) {
+    if !read_halves(22344, &mut scores[65536..]) {
         return false;
     }
     read_weights(weights)
 }
 
+// A place's tables go to its part of each array.
 fn read_place(k: usize, classes: &mut [u8], marks: &mut [u8], scores: &mut [i16]) -> bool
     requires { ⌜ k < 4 ⌝ }
     requires { ⌜ (length (now classes) ≡ 1024) × ((length (now marks) ≡ 512) × (length (now scores) ≡ 76708)) ⌝ }
 {
-    let mut bytes = [0u8; 33152];
-    let n = io::read_full(STDIN_FILENO, &mut bytes);
-    fill(&bytes[..n], k, classes, marks, scores)
-}
-
-// A place's bytes go to its part of each array.
-fn fill(bytes: &[u8], k: usize, classes: &mut [u8], marks: &mut [u8], scores: &mut [i16]) -> bool
-    requires { ⌜ k < 4 ⌝ }
-    requires { ⌜ (length (now classes) ≡ 1024) × ((length (now marks) ≡ 512) × (length (now scores) ≡ 76708)) ⌝ }
-{
-    if bytes.len() != 33152 {
+    if io::read_full(STDIN_FILENO, &mut classes[256 * k..256 * k + 256]) != 256 {
         return false;
     }
-    copy(&bytes[..256], &mut classes[256 * k..256 * k + 256]);
-    copy(&bytes[256..384], &mut marks[128 * k..128 * k + 128]);
-    halves(&bytes[384..], &mut scores[16384 * k..16384 * k + 16384]);
-    true
+    if io::read_full(STDIN_FILENO, &mut marks[128 * k..128 * k + 128]) != 128 {
+        return false;
+    }
+    read_halves(32768, &mut scores[16384 * k..16384 * k + 16384])
 }
 
-fn copy(from: &[u8], to: &mut [u8]) {
-    let mut i = 0;
-    while i < to.len() {
-        to[i] = number::byte(from, i);
-        i += 1;
+// As many numbers of 16 bits as there is room for, which take that many bytes.
+fn read_halves(len: usize, to: &mut [i16]) -> bool
+    requires { ⌜ len ≤ 32768 ⌝ }
+{
+    let mut bytes = [0u8; 32768];
+    if input::part(&mut bytes, len) < len {
+        return false;
     }
+    halves(&bytes, to);
+    true
 }
 
 fn halves(from: &[u8], to: &mut [i16]) {
@@ -105,19 +101,6 @@ fn read_weights(weights: &mut [i32]) -> bool {
         weights[i] = number::signed32(&bytes, 4 * i);
         i += 1;
     }
-    true
-}
-
-// The Hangul extras, which stand after the pair scores.
-fn read_extras(scores: &mut [i16]) -> bool
-    requires { ⌜ length (now scores) ≡ 76708 ⌝ }
-{
-    let mut bytes = [0u8; 22344];
-    let n = io::read_full(STDIN_FILENO, &mut bytes);
-    if n != 22344 {
-        return false;
-    }
-    halves(&bytes[..n], &mut scores[65536..]);
     true
 }
 
