@@ -15,12 +15,12 @@ use Rattle.iso2022jp.specs.declared.OutputState.{OutputState}
 use Rattle.iso2022jp.specs.declared.OutputState.the-variants as O
 use Rattle.pairs.specs.declared.Held.{Held}
 use Rattle.pairs.specs.declared.Held.the-variants as H
-use Rattle.single.specs.declared.arabic_french.ArabicFrench.{ArabicFrench as ArabicFrenchRecord}
-use Rattle.single.specs.declared.arabic_french.LatinCaseState.{LatinCaseState}
-use Rattle.single.specs.declared.arabic_french.LatinCaseState.the-variants as S
-use Rattle.single.specs.declared.caseless.Caseless.{Caseless as CaselessRecord}
-use Rattle.single.specs.declared.logical.Logical.{Logical as LogicalRecord}
-use Rattle.single.specs.declared.visual.Visual.{Visual as VisualRecord}
+use Rattle.arabic_french.specs.declared.ArabicFrench.{ArabicFrench as ArabicFrenchRecord}
+use Rattle.arabic_french.specs.declared.LatinCaseState.{LatinCaseState}
+use Rattle.arabic_french.specs.declared.LatinCaseState.the-variants as S
+use Rattle.caseless.specs.declared.Caseless.{Caseless as CaselessRecord}
+use Rattle.logical.specs.declared.Logical.{Logical as LogicalRecord}
+use Rattle.visual.specs.declared.Visual.{Visual as VisualRecord}
 use Rattle.utf8.specs.declared.Utf8.{Utf8 as Utf8Record}
 use Rattle.kinds.specs.declared.machine.Machine.{Machine}
 use Rattle.kinds.specs.declared.machine.Machine.the-variants.{Utf8, Iso2022Jp, EucKr, Big5, Caseless, Logical, Visual, ArabicFrench}

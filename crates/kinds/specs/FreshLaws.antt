@@ -16,12 +16,12 @@ use Rattle.iso2022jp.specs.declared.OutputState.{OutputState}
 use Rattle.iso2022jp.specs.declared.OutputState.the-variants as O
 use Rattle.pairs.specs.declared.Held.{Held}
 use Rattle.pairs.specs.declared.Held.the-variants as H
-use Rattle.single.specs.declared.arabic_french.ArabicFrench.{ArabicFrench as ArabicFrenchRecord}
-use Rattle.single.specs.declared.arabic_french.LatinCaseState.{LatinCaseState}
-use Rattle.single.specs.declared.arabic_french.LatinCaseState.the-variants as S
-use Rattle.single.specs.declared.caseless.Caseless.{Caseless as CaselessRecord}
-use Rattle.single.specs.declared.logical.Logical.{Logical as LogicalRecord}
-use Rattle.single.specs.declared.visual.Visual.{Visual as VisualRecord}
+use Rattle.arabic_french.specs.declared.ArabicFrench.{ArabicFrench as ArabicFrenchRecord}
+use Rattle.arabic_french.specs.declared.LatinCaseState.{LatinCaseState}
+use Rattle.arabic_french.specs.declared.LatinCaseState.the-variants as S
+use Rattle.caseless.specs.declared.Caseless.{Caseless as CaselessRecord}
+use Rattle.logical.specs.declared.Logical.{Logical as LogicalRecord}
+use Rattle.visual.specs.declared.Visual.{Visual as VisualRecord}
 use Rattle.utf8.specs.declared.Utf8.{Utf8 as Utf8Record}
 use Rattle.kinds.specs.declared.machine.Machine.{Machine}
 use Rattle.kinds.specs.declared.machine.Machine.the-variants.{Utf8, Iso2022Jp, EucKr, Big5, Caseless, Logical, Visual, ArabicFrench}
@@ -31,10 +31,10 @@ use Rattle.laws.specs.Tests.{both}
 use Rattle.big5.specs.Scoring as big5
 use Rattle.euckr.specs.Scoring as euckr
 use Rattle.iso2022jp.specs.Iso2022Jp as iso2022jp
-use Rattle.single.specs.ArabicFrench as arabicFrench
-use Rattle.single.specs.Caseless as caseless
-use Rattle.single.specs.Logical as logical
-use Rattle.single.specs.Visual as visual
+use Rattle.arabic_french.specs.ArabicFrench as arabicFrench
+use Rattle.caseless.specs.Caseless as caseless
+use Rattle.logical.specs.Logical as logical
+use Rattle.visual.specs.Visual as visual
 use Rattle.utf8.specs.Utf8 as utf-8
 use Rattle.kinds.specs.Kinds.{freshIn}
 use Rattle.kinds.specs.Fresh.{freshUtf8B, asciiState, asciiOut, freshIso2022JpB, emptyB, otherKorean, freshEucKrB, otherCj, freshBig5B, freshCommonB, freshCaselessB, freshLogicalB, freshVisualB, spaceCase, freshArabicFrenchB, freshB}

@@ -6,11 +6,11 @@ use lib.Dec.{leb}
 use Rattle.big5.specs.Big5 as big5
 use Rattle.euckr.specs.EucKr as euckr
 use Rattle.iso2022jp.specs.Iso2022Jp as iso2022jp
-use Rattle.single.specs.ArabicFrench as arabicFrench
-use Rattle.single.specs.Caseless as caseless
-use Rattle.single.specs.Logical as logical
-use Rattle.single.specs.Visual as visual
-use Rattle.single.specs.declared.logical.Logical.{Logical as LogicalRecord}
+use Rattle.arabic_french.specs.ArabicFrench as arabicFrench
+use Rattle.caseless.specs.Caseless as caseless
+use Rattle.logical.specs.Logical as logical
+use Rattle.visual.specs.Visual as visual
+use Rattle.logical.specs.declared.Logical.{Logical as LogicalRecord}
 use Rattle.utf8.specs.Utf8 as utf-8
 use Rattle.kinds.specs.Kinds.{kindOf}
 use Rattle.kinds.specs.declared.machine.Machine.{Machine}

@@ -29,18 +29,18 @@ use Rattle.single.specs.Fit.{Common}
 use Rattle.single.specs.Lent.{Lent}
 use Rattle.single.specs.Punctuation.{countOf}
 use Rattle.single.specs.Words.{longestOf}
-use Rattle.single.specs.Caseless as caseless
-use Rattle.single.specs.CaselessLaws as caseless-laws
-use Rattle.single.specs.declared.caseless.Caseless.{Caseless as CaselessRecord}
-use Rattle.single.specs.Logical as logical
-use Rattle.single.specs.LogicalLaws as logical-laws
-use Rattle.single.specs.declared.logical.Logical.{Logical as LogicalRecord}
-use Rattle.single.specs.Visual as visual
-use Rattle.single.specs.VisualLaws as visual-laws
-use Rattle.single.specs.declared.visual.Visual.{Visual as VisualRecord}
-use Rattle.single.specs.ArabicFrench as arabicFrench
-use Rattle.single.specs.ArabicFrenchLaws as arabicFrench-laws
-use Rattle.single.specs.declared.arabic_french.ArabicFrench.{ArabicFrench as ArabicFrenchRecord}
+use Rattle.caseless.specs.Caseless as caseless
+use Rattle.caseless.specs.CaselessLaws as caseless-laws
+use Rattle.caseless.specs.declared.Caseless.{Caseless as CaselessRecord}
+use Rattle.logical.specs.Logical as logical
+use Rattle.logical.specs.LogicalLaws as logical-laws
+use Rattle.logical.specs.declared.Logical.{Logical as LogicalRecord}
+use Rattle.visual.specs.Visual as visual
+use Rattle.visual.specs.VisualLaws as visual-laws
+use Rattle.visual.specs.declared.Visual.{Visual as VisualRecord}
+use Rattle.arabic_french.specs.ArabicFrench as arabicFrench
+use Rattle.arabic_french.specs.ArabicFrenchLaws as arabicFrench-laws
+use Rattle.arabic_french.specs.declared.ArabicFrench.{ArabicFrench as ArabicFrenchRecord}
 use Rattle.utf8.specs.Utf8 as utf-8
 use Rattle.utf8.specs.Utf8Laws as utf-8-laws
 use Rattle.kinds.specs.Kinds.{kindOf, freshIn, stepOf, closeOf, WeighedIn}

@@ -3,20 +3,20 @@ ghost use mathlib.Core.Path.{_≡_};
 ghost use Rattle.kinds.specs.Fresh.{asciiState, asciiOut, otherKorean, otherCj, spaceCase, freshUtf8B, freshIso2022JpB, emptyB, freshEucKrB, freshBig5B, freshCommonB, freshCaselessB, freshLogicalB, freshVisualB, freshArabicFrenchB, freshB};
 use crate::machine::Machine;
 use crate::tests::both;
+use arabic_french::ArabicFrench;
+use arabic_french::LatinCaseState;
 use big5::Big5;
 use big5::LatinCj;
+use caseless::Caseless;
 use euckr::EucKr;
 use euckr::LatinKorean;
 use iso2022jp::DecoderState;
 use iso2022jp::Iso2022Jp;
 use iso2022jp::OutputState;
+use logical::Logical;
 use pairs::Held;
-use single::arabic_french::ArabicFrench;
-use single::arabic_french::LatinCaseState;
-use single::caseless::Caseless;
-use single::logical::Logical;
-use single::visual::Visual;
 use utf8::Utf8;
+use visual::Visual;
 
 fn is_fresh_utf8(m: Utf8) -> bool
     ensures { λ r. ⌜ r ≡ freshUtf8B m ⌝ }

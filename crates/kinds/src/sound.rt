@@ -3,7 +3,7 @@ ghost use mathlib.Core.Path.{_≡_};
 ghost use Rattle.kinds.specs.Sound.{takesSpace, soundLogicalB, soundB};
 use crate::machine::Machine;
 use crate::tests::both;
-use single::logical::Logical;
+use logical::Logical;
 
 // Whether the end of the stream is a space to it, one byte more.
 pub fn takes_space(machine: Machine) -> bool

@@ -17,10 +17,10 @@ use Rattle.weights.specs.Weights.{perByte}
 use Rattle.big5.specs.Scoring as big5
 use Rattle.euckr.specs.Scoring as euckr
 use Rattle.iso2022jp.specs.Iso2022Jp as iso2022jp
-use Rattle.single.specs.ArabicFrench as arabicFrench
-use Rattle.single.specs.Caseless as caseless
-use Rattle.single.specs.Logical as logical
-use Rattle.single.specs.Visual as visual
+use Rattle.arabic_french.specs.ArabicFrench as arabicFrench
+use Rattle.caseless.specs.Caseless as caseless
+use Rattle.logical.specs.Logical as logical
+use Rattle.visual.specs.Visual as visual
 use Rattle.utf8.specs.Utf8 as utf-8
 use Rattle.kinds.specs.Kinds.{kindOf, freshIn}
 use Rattle.kinds.specs.KindLaws.{reach-open}

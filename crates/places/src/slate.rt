@@ -12,17 +12,17 @@ use crate::order;
 use crate::place::Place;
 use crate::place::Score;
 use crate::place::Slate;
+use arabic_french::ArabicFrench;
 use big5::Big5;
+use caseless::Caseless;
 use euckr::EucKr;
 use iso2022jp::Iso2022Jp;
 use kinds::machine::Machine;
 use kinds::tables;
 use kinds::tests::both;
-use single::arabic_french::ArabicFrench;
-use single::caseless::Caseless;
-use single::logical::Logical;
-use single::visual::Visual;
+use logical::Logical;
 use utf8::Utf8;
+use visual::Visual;
 
 pub const PLACES: usize = 8;
 

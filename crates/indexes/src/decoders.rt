@@ -209,22 +209,22 @@ fn euckr_lead(counts: Counts, lead: u8, index: &[u32], from: usize) -> Counts {
     c
 }
 
-pub fn big5(index: &[u32]) {
+pub(crate) fn big5(index: &[u32]) {
     let mut c = Counts::none();
     let mut lead: usize = 0x81;
     while lead < 0xFF {
         c = big5_lead(c, lead as u8, index, (lead - 0x81) * 157);
         lead += 1;
     }
-    c.print(b"big5");
+    c.print(b"big5 pairs");
 }
 
-pub fn euckr(index: &[u32]) {
+pub(crate) fn euckr(index: &[u32]) {
     let mut c = Counts::none();
     let mut lead: usize = 0x81;
     while lead < 0xFF {
         c = euckr_lead(c, lead as u8, index, (lead - 0x81) * 190);
         lead += 1;
     }
-    c.print(b"euc-kr");
+    c.print(b"euc-kr pairs");
 }

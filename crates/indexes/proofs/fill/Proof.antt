@@ -1,27 +1,33 @@
--- `copy` is safe and ends. Assumes nothing.
+-- `fill` is safe and ends. Assumes nothing.
 use mathlib.Core.Path.{_≡_}
 use Prim.Native.Nat.{_-_, _≤_}
 use lib.ListN.{length-set}
 use native.Mathlib.Omega.{arith}
 use lib.ListN.{length}
 use borrow.Author.Needs.{needs}
-use Rattle.drive.proofs.tables.copy.Statement.{statement}
-use Rattle.drive.proofs.tables.copy.Tie as tie
+use Rattle.indexes.proofs.fill.Statement.{statement}
+use Rattle.indexes.proofs.fill.Tie as tie
 
 abbrev Inv-loop : tie.InvT-loop
-Inv-loop from to₀ i₀ to i = (i ≤ length to) × (length to ≡ length to₀)
+Inv-loop index₀ bytes i₀ index i = (i ≤ length index) × (length index ≡ 24576)
 
 abbrev μ-loop : tie.MeasureT-loop
-μ-loop from to₀ i₀ to i = length to₀ - i
+μ-loop index₀ bytes i₀ index i = 24576 - i
 
 loop-holds : tie.Need-loop-holds Inv-loop μ-loop
 loop-holds c = search needs
 
-byte-requires : tie.Need-byte-requires Inv-loop μ-loop
-byte-requires c κs = search needs
+mul-entry : tie.Need-mul-entry Inv-loop μ-loop
+mul-entry c = search needs
 
-slice-write-to : tie.Need-slice-write-to Inv-loop μ-loop
-slice-write-to c = search needs
+entry-requires : tie.Need-entry-requires Inv-loop μ-loop
+entry-requires c κs = search needs
+
+mul-index : tie.Need-mul-index Inv-loop μ-loop
+mul-index c = search needs
+
+slice-write-index : tie.Need-slice-write-index Inv-loop μ-loop
+slice-write-index c = search needs
 
 add-i : tie.Need-add-i Inv-loop μ-loop
 add-i c = search needs
@@ -38,15 +44,17 @@ same-length c = search needs
 returns : tie.Need-returns Inv-loop μ-loop
 returns c = search needs
 
-pub copy-spec : {M : Type 1} → statement M
-copy-spec =
+pub fill-spec : {M : Type 1} → statement M
+fill-spec =
     tie.close
     (tie.spec
     Inv-loop
     μ-loop
     loop-holds
-    byte-requires
-    slice-write-to
+    mul-entry
+    entry-requires
+    mul-index
+    slice-write-index
     add-i
     loop-less
     loop-again

@@ -1,8 +1,8 @@
--- `decoders::big5_lead` meets its contract. Assumes nothing.
+-- `decoders::euckr_lead` meets its contract. Assumes nothing.
 use Prim.Native.Nat.{_-_, _≤_}
 use borrow.Author.Needs.{needs}
-use Rattle.answers_pairs.proofs.decoders.big5_lead.Statement.{statement}
-use Rattle.answers_pairs.proofs.decoders.big5_lead.Tie as tie
+use Rattle.indexes.proofs.decoders.euckr_lead.Statement.{statement}
+use Rattle.indexes.proofs.decoders.euckr_lead.Tie as tie
 
 abbrev Inv-loop : tie.InvT-loop
 Inv-loop lead index from c₀ at₀ k₀ c at k = k ≤ 256
@@ -25,8 +25,8 @@ entry-at-requires c κs = search needs
 with-requires : tie.Need-with-requires Inv-loop μ-loop
 with-requires c κs = search needs
 
-is-big5-trail-requires : tie.Need-is-big5-trail-requires Inv-loop μ-loop
-is-big5-trail-requires c κs = search needs
+is-euckr-trail-requires : tie.Need-is-euckr-trail-requires Inv-loop μ-loop
+is-euckr-trail-requires c κs = search needs
 
 step-requires : tie.Need-step-requires Inv-loop μ-loop
 step-requires c κs = search needs
@@ -43,8 +43,8 @@ loop-again c = search needs
 returns : tie.Need-returns Inv-loop μ-loop
 returns c = search needs
 
-pub big5-lead-spec : {M : Type 1} → statement M
-big5-lead-spec =
+pub euckr-lead-spec : {M : Type 1} → statement M
+euckr-lead-spec =
     tie.close
     (tie.spec
     Inv-loop
@@ -54,7 +54,7 @@ big5-lead-spec =
     decoded-requires
     entry-at-requires
     with-requires
-    is-big5-trail-requires
+    is-euckr-trail-requires
     step-requires
     add-k
     loop-less

@@ -1,8 +1,8 @@
 -- `decoders::euckr` meets its contract. Assumes nothing.
 use Prim.Native.Nat.{_-_, _≤_}
 use borrow.Author.Needs.{needs}
-use Rattle.answers_pairs.proofs.decoders.euckr.Statement.{statement}
-use Rattle.answers_pairs.proofs.decoders.euckr.Tie as tie
+use Rattle.indexes.proofs.decoders.euckr.Statement.{statement}
+use Rattle.indexes.proofs.decoders.euckr.Tie as tie
 
 abbrev Inv-loop : tie.InvT-loop
 Inv-loop index c₀ lead₀ t4 c lead = (0x81 ≤ lead) × (lead ≤ 0xFF)
