@@ -100,6 +100,31 @@ DueAt c n d = (xs : List ℕ) → dueAs c xs d ≡ reachesAt c xs n
 abbrev pub DueBy : Context → Trigger → Due → Type 0
 DueBy c g d = (xs : List ℕ) → dueAs c xs d ≡ reachesBy c xs g
 
+-- where the trigger stands in the chunk
+abbrev pub offsetOf : Trigger → ℕ
+offsetOf Earlier = 0
+offsetOf (Escape n) = n
+offsetOf (NonAscii n) = n
+offsetOf Nowhere = 0
+
+-- it stands in this chunk
+abbrev pub Here : Trigger → Type 0
+Here Earlier = ⊥
+Here (Escape n) = Unit {0}
+Here (NonAscii n) = Unit {0}
+Here Nowhere = ⊥
+
+-- the code's offset and number are within the chunk and the context
+abbrev pub WithinAt : Context → ℕ → Due → Type 0
+WithinAt c at Nothing = Unit {0}
+WithinAt c at (Part n) = n ≤ at
+WithinAt c at (After k) = k ≡ length (bytesOf c)
+
+abbrev pub WithinBy : Context → Trigger → Due → Type 0
+WithinBy c g Nothing = Unit {0}
+WithinBy c g (Part n) = n ≤ offsetOf g
+WithinBy c g (After k) = (k ≡ length (bytesOf c)) × Here g
+
 -- counts that so many bytes more do not make wrap
 pub record Roomy (f : Front) (bytes : ℕ) : Type 0 where
   pub accepted : f .bytes ≤ limit

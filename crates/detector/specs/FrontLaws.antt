@@ -13,13 +13,13 @@ use Rattle.laws.specs.Lists.{any, count, last, any-append, any-drop, count-appe
 use Rattle.laws.specs.Tests.{neither, either}
 use Rattle.octets.specs.Octets.{ascii, nonAscii}
 use Rattle.context.specs.Context.{bytesOf, contextOf, pushOf}
-use Rattle.context.specs.ContextLaws.{push-bytes}
+use Rattle.context.specs.ContextLaws.{bytes-most, push-bytes}
 use Rattle.context.specs.Head.{escape, isTrigger, scanOf, nonAsciiCount}
 use Rattle.context.specs.HeadLaws.{First, FirstAt, scan-first}
 use Rattle.context.specs.declared.Context.{Context}
 use Rattle.context.specs.declared.Scanned.{Scanned}
 use Rattle.context.specs.declared.Scanned.the-variants as scanned
-use Rattle.detector.specs.Front.{flagOf, triggered, foundAs, triggerOf, Reaches, none, some, reachesAt, reachesBy, bytesIn, contextAt, contextBy, escBy, dueAs, DueAt, DueBy}
+use Rattle.detector.specs.Front.{flagOf, triggered, foundAs, triggerOf, Reaches, none, some, reachesAt, reachesBy, bytesIn, contextAt, contextBy, escBy, dueAs, DueAt, DueBy, offsetOf, Here, WithinAt, WithinBy}
 use Rattle.detector.specs.Order.{Saved}
 use Rattle.detector.specs.declared.front.Due.{Due}
 use Rattle.detector.specs.declared.front.Due.the-variants.{Nothing, Part, After}
@@ -77,8 +77,59 @@ module _ (f : Front) (xs : List ℕ) where
   unfolding triggerOf
   trigger-found r e q = rw (e, q)
 
+-- ---- what the scan found
+module _ (xs : List ℕ) where
+  pub no-trigger : scanOf xs ≡ scanned.End → any isTrigger xs ≡ false
+  no-trigger e = rw e at (scan-first xs)
+
+  pub escape-at : (n : ℕ) → scanOf xs ≡ scanned.Escape n → n < length xs
+  escape-at n e = found .within
+    where
+      found : First xs (scanned.Escape n)
+      found = rw e at (scan-first xs)
+
+  pub non-ascii-at : (n : ℕ) → scanOf xs ≡ scanned.NonAscii n → FirstAt (λ (b : ℕ). nonAscii b ≡ true) xs n
+  non-ascii-at n e = rw e at (scan-first xs)
+
+-- ---- the code's offset and number
+pub within-by : (c : Context) (g : Trigger) (d : Due) → Here g → WithinAt c (offsetOf g) d → WithinBy c g d
+within-by c g Nothing h w = tt
+within-by c g (Part n) h w = w
+within-by c g (After k) h w = (w, h)
+
+found-offset : (xs : List ℕ) (r : Scanned) → scanOf xs ≡ r → offsetOf (foundAs r) ≤ length xs
+found-offset xs (scanned.Escape n) e = omega (arith, escape-at xs n e)
+found-offset xs (scanned.NonAscii n) e = omega (arith, non-ascii-at xs n e .within)
+found-offset xs scanned.End e = omega arith
+
+offset-at : (xs : List ℕ) (t : Bool) → offsetOf (cond t Earlier (foundAs (scanOf xs))) ≤ length xs
+offset-at xs true = omega arith
+offset-at xs false = found-offset xs (scanOf xs) refl
+
+module _ (f : Front) (xs : List ℕ) (g : Trigger) (e : g ≡ triggerOf f xs) (d : Due) (w : WithinBy (f .context) g d) where
+  offset-most : offsetOf g ≤ length xs
+  unfolding triggerOf
+  offset-most = rw e (offset-at xs (triggered f))
+
+  pub part-within : (n : ℕ) → d ≡ Part n → n ≤ length xs
+  part-within n q = let h : n ≤ offsetOf g = rw q at w in omega (arith, h, offset-most)
+
+  -- what the code lends of the context is what it holds
+  pub after-within : (k : ℕ) → d ≡ After k → (k ≤ 2) × (take k (f .context .first ∷ f .context .second ∷ []) ≡ bytesOf (f .context))
+  after-within k q =
+      let h : (k ≡ length (bytesOf (f .context))) × Here g = rw q at w in
+      (rw (h .0) (bytes-most (f .context)), rw (h .0) (take-taken (f .context .len) (f .context .first ∷ f .context .second ∷ [])))
+
+  here-new : (t : Bool) → g ≡ cond t Earlier (foundAs (scanOf xs)) → Here g → t ≡ false
+  here-new true q h = absurd (rw q at h)
+  here-new false q h = refl
+
+  pub after-new : (k : ℕ) → d ≡ After k → triggered f ≡ false
+  unfolding triggerOf
+  after-new k q = let h : (k ≡ length (bytesOf (f .context))) × Here g = rw q at w in here-new (triggered f) e (h .1)
+
 -- ---- plain bytes: neither 0x1B nor non-ASCII
-plain-count : (xs : List ℕ) → any isTrigger xs ≡ false → nonAsciiCount xs ≡ 0
+pub plain-count : (xs : List ℕ) → any isTrigger xs ≡ false → nonAsciiCount xs ≡ 0
 unfolding any count
 plain-count [] e = refl
 plain-count (x ∷ xs) e =
@@ -109,32 +160,18 @@ push-len c (x ∷ xs) h =
     let s : length (bytesOf c ++ (x ∷ xs)) ≡ c .len + length (x ∷ xs) = length-append (bytesOf c) (x ∷ xs) ∙ ap (λ (n : ℕ). n + length (x ∷ xs)) (len-held c h) in
     (rw e (last-length 2 (bytesOf c ++ (x ∷ xs))), rw e (omega (arith, last-shorter (bytesOf c ++ (x ∷ xs)), s)))
 
+plain-last : (l : List ℕ) → any isTrigger l ≡ false → any isTrigger (last 2 l) ≡ false
+unfolding last
+plain-last l h = any-drop isTrigger (length l - 2) l h
+
 pub push-saved : (c : Context) (xs : List ℕ) → Saved c → any isTrigger xs ≡ false → Saved (pushOf c xs)
 push-saved c xs s e =
     let all : any isTrigger (bytesOf c ++ xs) ≡ false = any-append isTrigger (bytesOf c) xs ∙ rw (s .plain, e) in
     record { two = push-len c xs (s .two) .0; plain = ap (any isTrigger) (push-bytes c xs) ∙ plain-last (bytesOf c ++ xs) all }
-  where
-    plain-last : (l : List ℕ) → any isTrigger l ≡ false → any isTrigger (last 2 l) ≡ false
-    unfolding last
-    plain-last l h = any-drop isTrigger (length l - 2) l h
 
 pub empty-saved : Saved (contextOf [])
 unfolding any
 empty-saved = record { two = omega arith; plain = refl }
-
--- ---- what the scan found
-module _ (xs : List ℕ) where
-  pub no-trigger : scanOf xs ≡ scanned.End → any isTrigger xs ≡ false
-  no-trigger e = rw e at (scan-first xs)
-
-  pub escape-at : (n : ℕ) → scanOf xs ≡ scanned.Escape n → n < length xs
-  escape-at n e = found .within
-    where
-      found : First xs (scanned.Escape n)
-      found = rw e at (scan-first xs)
-
-  pub non-ascii-at : (n : ℕ) → scanOf xs ≡ scanned.NonAscii n → FirstAt (λ (b : ℕ). nonAscii b ≡ true) xs n
-  non-ascii-at n e = rw e at (scan-first xs)
 
 -- ---- counts
 module _ (c : Context) (s : Saved c) (xs : List ℕ) (n : ℕ) where

@@ -5,9 +5,8 @@ use Prim.Native.Nat.{ℕ, _≤_}
 use lib.Dec.{eqb, leb, ltb}
 use Rattle.laws.specs.Limit.{limit}
 use Rattle.laws.specs.Lists.{any}
-use Rattle.octets.specs.Octets.{ascii}
 use Rattle.context.specs.Context.{bytesOf}
-use Rattle.context.specs.Head.{escape, isTrigger}
+use Rattle.context.specs.Head.{isTrigger}
 use Rattle.context.specs.declared.Context.{Context}
 use Rattle.places.specs.Order.{SlateFor, slateB}
 use Rattle.detector.specs.Front.{triggered}
@@ -32,7 +31,7 @@ pub record InOrder (s : State) : Type 0 where
 
 -- ---- the test
 unfoldable pub plainB : ℕ → Bool
-plainB b = ascii b && not (eqb b escape)
+plainB b = not (isTrigger b)
 
 unfoldable pub savedB : Context → Bool
 savedB c = leb (c .len) 2 && ((eqb (c .len) 0 || plainB (c .first)) && (ltb (c .len) 2 || plainB (c .second)))

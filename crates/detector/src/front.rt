@@ -1,7 +1,7 @@
 // The front end: what is known of the bytes so far, and which bytes of a chunk reach the places.
 ghost use mathlib.Core.Path.{_≡_};
 ghost use lib.ListN.{length};
-ghost use Rattle.detector.specs.Front.{fresh, flagOf, triggered, triggerOf, DueAt, DueBy, contextAt, contextBy, escBy, uncounted, counted, Roomy};
+ghost use Rattle.detector.specs.Front.{fresh, flagOf, triggered, triggerOf, DueAt, DueBy, WithinAt, WithinBy, contextAt, contextBy, escBy, uncounted, counted, Roomy};
 ghost use Rattle.detector.specs.Order.{plainB, savedB, frontB};
 use context;
 use context::Context;
@@ -37,6 +37,7 @@ pub(crate) enum Due {
 // The trigger stands at this offset. The test comes before the subtraction of two.
 fn due_at(at: usize, context: Context) -> Due
     ensures { λ r. ⌜ DueAt context at r ⌝ }
+    ensures { λ r. ⌜ WithinAt context at r ⌝ }
 {
     if at < Context::MOST {
         return Due::After(context.count());
@@ -95,6 +96,7 @@ impl Front {
 
     pub(crate) fn due(self, trigger: Trigger) -> Due
         ensures { λ r. ⌜ DueBy (self .context) trigger r ⌝ }
+        ensures { λ r. ⌜ WithinBy (self .context) trigger r ⌝ }
     {
         let context = self.context;
         match trigger {
@@ -173,7 +175,7 @@ impl Front {
 fn is_plain(b: u8) -> bool
     ensures { λ r. ⌜ r ≡ plainB b ⌝ }
 {
-    both(octets::is_ascii(b), b != 0x1B)
+    !either(b == 0x1B, octets::is_non_ascii(b))
 }
 
 // What stands past a context's length is not looked at.

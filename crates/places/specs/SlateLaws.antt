@@ -122,9 +122,9 @@ module _ (t : Tables) (xs : List ℕ) (ps : List Place) where
   slated-at last x e = rw e
 
   -- what a caller that has tested uses
-  pub slated-fit : (last fed : Bool) (n : ℕ) → Sized t → n + length xs ≤ limit → SlateFor n false fed ps → slatedOf t last xs ps ≡ slated true (feedAll t last xs ps)
+  pub slated-fit : (last fed : Bool) (n : ℕ) → Sized t → length xs ≤ limit → SlateFor n false fed ps → slatedOf t last xs ps ≡ slated true (feedAll t last xs ps)
   slated-fit last fed n z h o =
-      sym (slated-at last true (true-fit (record { short = omega arith; slate = slate-more n limit fed ps (omega arith) (omega arith) o; sized = z })))
+      sym (slated-at last true (true-fit (record { short = h; slate = slate-more n limit fed ps (o .most) (omega arith) o; sized = z })))
 
 -- ---- the places after a part are in order
 each-fed : (t : Tables) (last : Bool) (xs : List ℕ) (n : ℕ) → n + length xs ≤ limit → (k : ℕ) (ps : List Place) → EachFrom (λ (j : ℕ) (p : Place). Kept t last xs p) k ps → EachFrom (PlaceFor n false true) k ps → EachFrom (PlaceFor (n + length xs) last true) k (feedAll t last xs ps)

@@ -1,21 +1,18 @@
+-- `due_at` meets its contract. Assumes nothing.
+use native.Mathlib.Omega.{arith}
+use Rattle.detector.specs.FrontLaws.{due-after, due-part}
 use borrow.Author.Needs.{needs}
 use Rattle.detector.proofs.front.due_at.Statement.{statement}
 use Rattle.detector.proofs.front.due_at.Tie as tie
-use Rattle.detector.proofs.front.due_at.Reads as reads
-use Rattle.detector.proofs.front.due_at.Lts as lts
-use Rattle.context.proofs.Context.count.Reads as count-reads
 
--- src/front.rt:42:27
 count-requires : tie.Need-count-requires
 count-requires c κs = search needs
 
--- src/front.rt:42:9
 returns : tie.Need-returns
-returns c = ?
+returns c = let a = c .before .before .args in (due-after (a .context) (a .at) (c .count .result) (c .before .if1 .taken) (c .count .ensures), c .count .ensures)
 
--- src/front.rt:38:1
 returns-2 : tie.Need-returns-2
-returns-2 c = ?
+returns-2 c = let a = c .before .args in (due-part (a .context) (a .at) (omega (arith, c .if1 .left)), omega arith)
 
 pub due-at-spec : {M : Type 1} → statement M
 due-at-spec = tie.close (tie.spec count-requires returns returns-2)

@@ -1,21 +1,19 @@
+-- `Front::counted` meets its contract. Assumes nothing.
+use native.Mathlib.Omega.{arith}
+use Rattle.laws.specs.Lists.{count-most}
+use Rattle.octets.specs.Octets.{nonAscii}
 use borrow.Author.Needs.{needs}
 use Rattle.detector.proofs.front.Front.counted.Statement.{statement}
 use Rattle.detector.proofs.front.Front.counted.Tie as tie
-use Rattle.detector.proofs.front.Front.counted.Reads as reads
-use Rattle.detector.proofs.front.Front.counted.Lts as lts
-use Rattle.context.proofs.count_non_ascii.Reads as count-non-ascii-reads
 
--- src/front.rt:153:51
 count-non-ascii-requires : tie.Need-count-non-ascii-requires
 count-non-ascii-requires c κs = search needs
 
--- src/front.rt:153:29
 add-t5 : tie.Need-add-t5
-add-t5 c = ?
+add-t5 c = let s = c .before .before .before .before in omega (arith, c .before .count-non-ascii .ensures, count-most nonAscii (s .args .part .now), s .pre .seen, s .pre .short)
 
--- src/front.rt:145:5
 returns : tie.Need-returns
-returns c = ?
+returns c = rw (c .before .count-non-ascii .ensures)
 
 pub counted-spec : {M : Type 1} → statement M
 counted-spec = tie.close (tie.spec count-non-ascii-requires add-t5 returns)

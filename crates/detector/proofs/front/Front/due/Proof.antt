@@ -1,49 +1,40 @@
+-- `Front::due` meets its contract. Assumes nothing.
+use native.Mathlib.Omega.{arith}
+use Rattle.detector.specs.FrontLaws.{due-earlier, due-escape, due-non-ascii, due-nowhere, within-by}
+use Rattle.detector.specs.declared.front.Trigger.the-variants.{Escape, NonAscii}
 use borrow.Author.Needs.{needs}
 use Rattle.detector.proofs.front.Front.due.Statement.{statement}
 use Rattle.detector.proofs.front.Front.due.Tie as tie
-use Rattle.detector.proofs.front.Front.due.Reads as reads
-use Rattle.detector.proofs.front.Front.due.Lts as lts
-use Rattle.detector.proofs.front.due_at.Reads as due-at-reads
 
--- src/front.rt:101:33
 enum-told : tie.Need-enum-told
 enum-told c = search needs
 
--- src/front.rt:102:29
 enum-known-trigger : tie.Need-enum-known-trigger
 enum-known-trigger c = search needs
 
--- src/front.rt:102:36
 due-at-requires : tie.Need-due-at-requires
 due-at-requires c κs = search needs
 
--- src/front.rt:103:31
 enum-known-trigger-2 : tie.Need-enum-known-trigger-2
 enum-known-trigger-2 c = search needs
 
--- src/front.rt:103:38
 due-at-requires-2 : tie.Need-due-at-requires-2
 due-at-requires-2 c κs = search needs
 
--- src/front.rt:104:33
 enum-told-2 : tie.Need-enum-told-2
 enum-told-2 c = search needs
 
--- src/front.rt:96:5
 returns : tie.Need-returns
-returns c = ?
+returns c = let s = c .before .before .before in rw (c .enum-told .given .1) (due-earlier (s .args .self .context), omega arith)
 
--- src/front.rt:96:5
 returns-2 : tie.Need-returns-2
-returns-2 c = ?
+returns-2 c = let s = c .before .before .before .before .before in let g = c .before .before .trigger .given in rw (g .1) (due-escape (s .args .self .context) (g .0 .0) (c .due-at .result) (c .due-at .ensures .0), within-by (s .args .self .context) (Escape (g .0 .0)) (c .due-at .result) tt (c .due-at .ensures .1))
 
--- src/front.rt:96:5
 returns-3 : tie.Need-returns-3
-returns-3 c = ?
+returns-3 c = let s = c .before .before .before .before .before in let g = c .before .before .trigger2 .given in rw (g .1) (due-non-ascii (s .args .self .context) (g .0 .0) (c .due-at2 .result) (c .due-at2 .ensures .0), within-by (s .args .self .context) (NonAscii (g .0 .0)) (c .due-at2 .result) tt (c .due-at2 .ensures .1))
 
--- src/front.rt:96:5
 returns-4 : tie.Need-returns-4
-returns-4 c = ?
+returns-4 c = let s = c .before .before .before in rw (c .enum-told2 .given .1) (due-nowhere (s .args .self .context), tt)
 
 pub due-spec : {M : Type 1} → statement M
 due-spec =

@@ -1,40 +1,36 @@
+-- `Front::escaped` meets its contract. Assumes nothing.
+use Rattle.detector.specs.Front.{escBy}
 use borrow.Author.Needs.{needs}
 use Rattle.detector.proofs.front.Front.escaped.Statement.{statement}
 use Rattle.detector.proofs.front.Front.escaped.Tie as tie
-use Rattle.detector.proofs.front.Front.escaped.Reads as reads
-use Rattle.detector.proofs.front.Front.escaped.Lts as lts
 
--- src/front.rt:124:33
 enum-told : tie.Need-enum-told
 enum-told c = search needs
 
--- src/front.rt:125:35
 enum-told-2 : tie.Need-enum-told-2
 enum-told-2 c = search needs
 
--- src/front.rt:126:37
 enum-told-3 : tie.Need-enum-told-3
 enum-told-3 c = search needs
 
--- src/front.rt:127:33
 enum-told-4 : tie.Need-enum-told-4
 enum-told-4 c = search needs
 
--- src/front.rt:120:5
 returns : tie.Need-returns
-returns c = ?
+unfolding escBy
+returns c = rw (c .enum-told .given .1)
 
--- src/front.rt:120:5
 returns-2 : tie.Need-returns-2
-returns-2 c = ?
+unfolding escBy
+returns-2 c = rw (c .enum-told2 .given .1)
 
--- src/front.rt:120:5
 returns-3 : tie.Need-returns-3
-returns-3 c = ?
+unfolding escBy
+returns-3 c = rw (c .enum-told3 .given .1)
 
--- src/front.rt:120:5
 returns-4 : tie.Need-returns-4
-returns-4 c = ?
+unfolding escBy
+returns-4 c = rw (c .enum-told4 .given .1)
 
 pub escaped-spec : {M : Type 1} → statement M
 escaped-spec =

@@ -1,46 +1,37 @@
+-- `Front::trigger` meets its contract. Assumes nothing.
+use mathlib.Core.Path.{_≡_, sym, ap, _∙_}
+use Rattle.detector.specs.Front.{foundAs}
+use Rattle.detector.specs.FrontLaws.{trigger-earlier, trigger-found}
 use borrow.Author.Needs.{needs}
 use Rattle.detector.proofs.front.Front.trigger.Statement.{statement}
 use Rattle.detector.proofs.front.Front.trigger.Tie as tie
-use Rattle.detector.proofs.front.Front.trigger.Reads as reads
-use Rattle.detector.proofs.front.Front.trigger.Lts as lts
-use Rattle.context.proofs.scan.Reads as scan-reads
-use Rattle.detector.proofs.front.Front.is_triggered.Reads as is-triggered-reads
 
--- src/front.rt:86:12
 is-triggered-requires : tie.Need-is-triggered-requires
 is-triggered-requires c κs = search needs
 
--- src/front.rt:87:13
 returns : tie.Need-returns
-returns c = ?
+returns c = let s = c .before .before .before in trigger-earlier (s .args .self) (s .args .chunk .now) (sym (c .before .is-triggered .ensures) ∙ c .if1 .taken)
 
--- src/front.rt:89:15
 scan-requires : tie.Need-scan-requires
 scan-requires c κs = search needs
 
--- src/front.rt:90:29
 enum-known-at : tie.Need-enum-known-at
 enum-known-at c = search needs
 
--- src/front.rt:91:31
 enum-known-at-2 : tie.Need-enum-known-at-2
 enum-known-at-2 c = search needs
 
--- src/front.rt:92:29
 enum-told : tie.Need-enum-told
 enum-told c = search needs
 
--- src/front.rt:83:5
 returns-2 : tie.Need-returns-2
-returns-2 c = ?
+returns-2 c = let s = c .before .before .before .before .before .before .before in ap foundAs (sym (c .before .at .given .1)) ∙ trigger-found (s .args .self) (s .args .chunk .now) (c .before .before .before .scan .result) (sym (c .before .before .before .before .before .is-triggered .ensures) ∙ c .before .before .before .before .if1 .left) (c .before .before .before .scan .ensures)
 
--- src/front.rt:83:5
 returns-3 : tie.Need-returns-3
-returns-3 c = ?
+returns-3 c = let s = c .before .before .before .before .before .before .before in ap foundAs (sym (c .before .at2 .given .1)) ∙ trigger-found (s .args .self) (s .args .chunk .now) (c .before .before .before .scan .result) (sym (c .before .before .before .before .before .is-triggered .ensures) ∙ c .before .before .before .before .if1 .left) (c .before .before .before .scan .ensures)
 
--- src/front.rt:83:5
 returns-4 : tie.Need-returns-4
-returns-4 c = ?
+returns-4 c = let s = c .before .before .before .before .before .before in ap foundAs (sym (c .enum-told .given .1)) ∙ trigger-found (s .args .self) (s .args .chunk .now) (c .before .before .scan .result) (sym (c .before .before .before .before .is-triggered .ensures) ∙ c .before .before .before .if1 .left) (c .before .before .scan .ensures)
 
 pub trigger-spec : {M : Type 1} → statement M
 trigger-spec =
