@@ -1,5 +1,5 @@
 -- `feed` meets its contract: a walk of its MIR, by hand. The borrow is opened, the front is copied out, `step` is called, the front that it gives is stored over the old one, and the borrow is closed at it.
--- `step` takes the rest of the parameters and their lifetimes' tokens as they came: they are passed on whole, and nothing of them is had at exit.
+-- `step` takes the rest of the parameters and their lifetimes' tokens as they came: they are passed on whole, and at exit there is no more of them than that nothing is said of their last values.
 -- Assumes nothing.
 use mathlib.Core.Path.{_≡_, refl, ap}
 use Prim.Native.Nat.{ℕ}
@@ -21,12 +21,10 @@ use types.Kit.{Given, Item, Seq, Go, prop, runs, frees, atRet, ‵, raw, _⊛_, 
 use types.Run.{Opds, look, look-raw, init, store-raw, stop, hop, load, of-opd, land, assigns, returns, enter, alloc1, alloc0, params1, pass1, pass0}
 use types.SemTy.{Body as Borrowed}
 use sound.WpLaws.{FmC, fmOf, WpFn-mono}
-use denote.RattleType.{RattleType, mirs, owns, flat}
+use denote.RattleType.{mirs, owns, flat}
 use denote.Laws.{Is, Typed, Are, Ises, shows, valss, all-typed}
 use denote.Memory.{cellAt, mem}
-use denote.Builtin.{u8, i16, u32, i32, bool}
-use denote.Signature.{Slot, AllWithin, plain, shrSliceOf, typesAt}
-use denote.Signature.Array.{arrayOf}
+use denote.Signature.{plain, typesAt}
 use denote.Steps.{only, opens, closes, owned, peeks, heard}
 use denote.Struct.Laws as LL
 use denote.Struct.Rest.{all-own, own-open}
@@ -37,17 +35,15 @@ use denote.Triple.Entry.{Args, Vals, onEntry}
 use denote.Triple.Spec.{Meets, tripleOf}
 use denote.Triple.Statement.{Contract, Triple}
 use denote.Triple.Table.{entered, cited}
-use denote.Triple.Walked.{says, Stays, stay-ref, stay-dropped, walkOf, hasOf, Goes, AllGo, goes-ref, goes-dropped, Walks, ends-at, walked, walk-meets}
-use denote.Exit.{yes}
+use denote.Triple.Walked.{says, Stays, stay-ref, walkOf, AllGo, goes-ref, Walks, ends-at, walked, walk-meets}
 use Rattle.detector.specs.declared.front.Front.{Front}
 use Rattle.detector.proofs.front.Front as F
 use Rattle.detector.proofs.front.Front.Laws as F′
-use Rattle.places.proofs.place.Place as P
 use Rattle.thin.specs.Thin.{steppedOf}
 use Rattle.thin.specs.declared.Stepped.{Stepped}
 use Rattle.thin.specs.declared.Thin.{Thin}
-use Rattle.thin.proofs.Dropped.{dropped, dropped-fit, dropped-had}
-use Rattle.thin.proofs.Lent.{lent, spelled, tells, lawfuls}
+use Rattle.thin.proofs.Lent.{others, none, lent, spelled, tells, lawfuls}
+use Rattle.thin.proofs.Said.{all-said, all-fit, all-go, silence, silent}
 use Rattle.thin.proofs.Stepped as S
 use Rattle.thin.proofs.Stepped.Laws as S′
 use Rattle.thin.proofs.Thin as T
@@ -65,16 +61,8 @@ use Rattle.thin.proofs.feed.Proof.Known.{found-at, read-at, first-of, s
 mod Known
 mod Locals
 
--- the parameters after the front, and whether each is kept
-abbrev others : List (Slot 19)
-others = rest-of (feed.signature .params)
-  where
-    rest-of : List (Slot 19) → List (Slot 19)
-    rest-of [] = []
-    rest-of (s ∷ ss) = ss
-
 abbrev stayed : Stays (feed.ended .signature .params) (feed.ended .kept)
-stayed = (stay-ref (0 ∷ []) tt (plain (λ _. F.the-row)), dropped others (feed.ended .kept .1))
+stayed = (stay-ref (0 ∷ []) tt (plain (λ _. F.the-row)), all-said others (feed.ended .kept .1))
 
 module _ {M : Type 1} (𝓤 : URA M) (H : Heap 𝓤) (A : Atoms 𝓤) (at-mem : Memory → SProp 𝓤) (run : Routine → Fun 𝓤) where
   -- the contract that the proof cites
@@ -121,16 +109,17 @@ module _ {M : Type 1} (𝓤 : URA M) (H : Heap 𝓤) (A : Atoms 𝓤) (W : Given
   abbrev Post : Val → SProp 𝓤
   Post = walkOf 𝓤 H A feed.ended stayed (feed.clauses 𝓤 H A at-mem run) .post ((κs, qs, tt, a, vss), tt)
 
+  -- what is had at exit
   abbrev Left : Stepped → List (Item 𝓤)
   Left r = ‵ (fobs γ (F.the-row .coded .code (r .front))) ∷ ‵ (fbor (κs .0) (Borrowed (mem F.the-row) b o γ)) ∷ ‵ (flft (κs .0) (qs .0)) ∷ ‵ (T.the-row .own (r .thin) (thin (r .thin) ∷ [])) ∷ raw Toks ∷ []
 
   exits : (r : Stepped) → r ≡ found → ent 𝓤 (⋆ 𝓤 H A (Left r)) (Post (thin (r .thin)))
   exits r e =
       qed W (Left r) ∵
-      suffices ! _ (ends-at 𝓤 H A feed.ended stayed (feed.clauses 𝓤 H A at-mem run) W ((κs, qs, tt, a, vss), tt) (thin (r .thin)) (r .thin) (r .front, (tt, (tt, (tt, (tt, (tt, (tt, (tt, (tt, (tt, (tt, (tt, (tt, (tt, (tt, (tt, (tt, (tt, (tt, (tt, (tt, tt))))))))))))))))))))) (tt, dropped-fit κs others (feed.ended .kept .1) (a .1) (tt, (tt, (tt, (tt, (tt, (tt, (tt, (tt, (tt, (tt, (tt, (tt, (tt, (tt, (tt, (tt, (tt, (tt, (tt, (tt, tt)))))))))))))))))))))) $
+      suffices ! _ (ends-at 𝓤 H A feed.ended stayed (feed.clauses 𝓤 H A at-mem run) W ((κs, qs, tt, a, vss), tt) (thin (r .thin)) (r .thin) (r .front, none κs a) (tt, all-fit κs others (feed.ended .kept .1) (a .1) (none κs a))) $
       says ! (ap (λ (s : Stepped). s .thin) e, ap (λ (s : Stepped). s .front) e) $
       move ! (2 ∷ 4 ∷ []) $ join ! $ frame ! $ feqI ! (List Val) (vptr b o ∷ []) (vptr b o ∷ []) refl $ fjoin3 ! $
-      use0 W (‵ (hasOf κs others (feed.ended .kept .1) (dropped others (feed.ended .kept .1)) (a .1) (tt, (tt, (tt, (tt, (tt, (tt, (tt, (tt, (tt, (tt, (tt, (tt, (tt, (tt, (tt, (tt, (tt, (tt, (tt, (tt, tt)))))))))))))))))))) (vss .1))) (dropped-had 𝓤 H A W κs others (feed.ended .kept .1) (a .1) (tt, (tt, (tt, (tt, (tt, (tt, (tt, (tt, (tt, (tt, (tt, (tt, (tt, (tt, (tt, (tt, (tt, (tt, (tt, (tt, tt)))))))))))))))))))) (vss .1)) $
+      use0 W (‵ (silence 20)) (silent 𝓤 H A W 20) $
       move ! (1 ∷ 0 ∷ []) $ fjoin ! $ frame ! $ done !
 
   -- the call of `step`: what it is passed, what it asks, and what is known of its result
@@ -151,7 +140,7 @@ module _ {M : Type 1} (𝓤 : URA M) (H : Heap 𝓤) (A : Atoms 𝓤) (W : Given
           seq (assign (place 22 []) (rvOpd (copy (place 1 (deref F′.mir ∷ []))))) (seq (call #thin·step xs (place 23 []))
           (seq (assign (place 1 (deref F′.mir ∷ [])) (rvOpd (copy (place 23 (field 0 ∷ []))))) (seq (assign (place 0 []) (rvOpd (copy (place 23 (field 1 ∷ []))))) return)))
 
-      -- the cells of the two locals that stay, between room for the others or what they hold
+      -- the reference's cell
       abbrev Reference : List (Item 𝓤) → List (Item 𝓤)
       Reference Γ = ‵ (fat fullShare τ₁ l₁ 0 (vptr b o)) ∷ ‵ (fdies τ₁ l₁) ∷ Γ
 
@@ -212,60 +201,8 @@ module _ {M : Type 1} (𝓤 : URA M) (H : Heap 𝓤) (A : Atoms 𝓤) (W : Given
   feed-walks C Λ fm known = walked 𝓤 H A feed.ended stayed (feed.clauses 𝓤 H A at-mem run) (WpFn 𝓤 H C Λ code.function) spelled tells
       (λ κs qs bounds a _ are. via 𝓤 _ (fst∗ 𝓤 _ (emp 𝓤)) (walk 𝓤 H A W at-mem run κs qs a C Λ fm known (all-typed 𝓤 H A (typesAt (feed.signature .params) κs) (lawfuls κs 𝓤 H A W) a _ are)))
 
-  -- nothing is said of a slice, or of what is passed by value
-  lent-goes : (j : ℕ) (ok : AllWithin 19 (j ∷ [])) (R : RattleType) → Goes 𝓤 H A W 19 (shrSliceOf (j ∷ []) ok (plain (λ _. R))) yes (stay-dropped (shrSliceOf (j ∷ []) ok (plain (λ _. R))) yes)
-  lent-goes j ok R = goes-dropped 𝓤 H A W 19 (shrSliceOf (j ∷ []) ok (plain (λ _. R))) yes (λ κs x f. refl)
-
   goes : AllGo 𝓤 H A W 19 (feed.signature .params) (feed.ended .kept) stayed
-  goes = (
-    goes-ref 𝓤 H A W 19 0 tt (plain (λ _. F.the-row)),
-    (
-      goes-dropped 𝓤 H A W 19 (arrayOf (plain (λ _. P.the-row)) 8) yes (λ κs x f. refl),
-      (
-        lent-goes 1 tt u8,
-        (
-          goes-dropped 𝓤 H A W 19 (plain (λ _. bool)) yes (λ κs x f. refl),
-          (
-            lent-goes 2 tt u8,
-            (
-              lent-goes 3 tt u8,
-              (
-                lent-goes 4 tt i16,
-                (
-                  lent-goes 5 tt u8,
-                  (
-                    lent-goes 6 tt u8,
-                    (
-                      lent-goes 7 tt i16,
-                      (
-                        lent-goes 8 tt u8,
-                        (
-                          lent-goes 9 tt u8,
-                          (
-                            lent-goes 10 tt i16,
-                            (
-                              lent-goes 11 tt u8,
-                              (
-                                lent-goes 12 tt u8,
-                                (
-                                  lent-goes 13 tt i16,
-                                  (lent-goes 14 tt u32, (lent-goes 15 tt u32, (lent-goes 16 tt u32, (lent-goes 17 tt i16, (lent-goes 18 tt i32, tt))))),
-                                ),
-                              ),
-                            ),
-                          ),
-                        ),
-                      ),
-                    ),
-                  ),
-                ),
-              ),
-            ),
-          ),
-        ),
-      ),
-    ),
-  )
+  goes = (goes-ref 𝓤 H A W 19 0 tt (plain (λ _. F.the-row)), all-go 𝓤 H A W 19 others (feed.ended .kept .1))
 
 feed-meets : {M : Type 1} (𝓤 : URA M) (H : Heap 𝓤) (A : Atoms 𝓤) (W : Given 𝓤 H A) (at-mem : Memory → SProp 𝓤) (run : Routine → Fun 𝓤) (𝓣 : Tables 𝓤 H)
     → Triple 𝓤 (𝓣 .C #thin·step) (Step 𝓤 H A at-mem run)
