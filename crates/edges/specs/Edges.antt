@@ -14,12 +14,12 @@ use Rattle.big5.specs.Edges.{rest}
 use Rattle.big5.specs.Scoring as big5
 use Rattle.big5.specs.declared.LatinCj.the-variants.{Cj, Other}
 use Rattle.euckr.specs.Edges.{Word}
+use Rattle.euckr.specs.declared.EucKr.{EucKr as EucKrRecord}
 use Rattle.kinds.specs.Tables.{Tables, tables}
-use Rattle.kinds.specs.declared.machine.Machine.the-variants.{Utf8, Iso2022Jp, Big5}
+use Rattle.kinds.specs.declared.machine.Machine.the-variants.{Utf8, Iso2022Jp, EucKr, Big5}
 use Rattle.places.specs.Place.{place}
 use Rattle.places.specs.Slate.{takenOf, feedAll}
 use Rattle.places.specs.declared.place.Place.{Place}
-use Rattle.places.specs.declared.place.Score.{Score}
 use Rattle.places.specs.declared.place.Score.the-variants.{None, Live}
 use Rattle.detector.specs.Feed.{feedOf}
 use Rattle.detector.specs.Front.{some, reachesOf}
@@ -44,14 +44,12 @@ Leaves t bits k xs p = takenOf bits (2 ^ k) ≡ Live (pos 0) → (d : Place) →
 abbrev pub withoutLong : Tables → Tables
 withoutLong t = tables (t .singles) (t .big5) (t .euckr) (t .jis) (t .extras) (set (t .weights) (placeOf longWord) (pos 0))
 
--- a live score larger by k
-unfoldable pub more : ℤ → Score → Score
-more k None = None
-more k (Live s) = Live (k +ℤ s)
-
--- n Hangul leave in place 2 what they do with a long-word weight of 0, and a score larger by k
-abbrev pub Adds : Tables → ℕ → ℕ → ℤ → Type 0
-Adds t bits n k = (xs : List ℕ) → Word (t .euckr) n xs → (p : Place) → Leaves (withoutLong t) bits 2 xs p → Leaves t bits 2 xs (place (p .machine) (more k (p .score)))
+-- the bytes leave place 2 live, with a score larger by k than with a long-word weight of 0, and else the same
+pub record Adds (t : Tables) (bits : ℕ) (xs : List ℕ) (k : ℤ) : Type 0 where
+  pub machine : EucKrRecord
+  pub score : ℤ
+  pub without : Leaves (withoutLong t) bits 2 xs (place (EucKr machine) (Live score))
+  pub with : Leaves t bits 2 xs (place (EucKr machine) (Live (score +ℤ k)))
 
 -- ---- the table
 pub record EdgeTable (t : Tables) (bits : ℕ) : Type 0 where
@@ -83,6 +81,6 @@ pub record EdgeTable (t : Tables) (bits : ℕ) : Type 0 where
   pub big5-a4-ff : Leaves t bits 3 (0xA4 ∷ 0xFF ∷ []) (place (Big5 big5.freshOf) None)
   pub big5-lone-80 : Leaves t bits 3 (0x80 ∷ []) (place (Big5 big5.freshOf) None)
   -- EUC-KR: long-word weight absent at five Hangul, once at six, twice at seven
-  pub euckr-five : Adds t bits 5 (pos 0)
-  pub euckr-six : Adds t bits 6 (weightOf (t .weights) longWord)
-  pub euckr-seven : Adds t bits 7 (weightOf (t .weights) longWord +ℤ weightOf (t .weights) longWord)
+  pub euckr-five : (xs : List ℕ) → Word (t .euckr) 5 xs → Adds t bits xs (pos 0)
+  pub euckr-six : (xs : List ℕ) → Word (t .euckr) 6 xs → Adds t bits xs (weightOf (t .weights) longWord)
+  pub euckr-seven : (xs : List ℕ) → Word (t .euckr) 7 xs → Adds t bits xs (weightOf (t .weights) longWord +ℤ weightOf (t .weights) longWord)
