@@ -1,8 +1,8 @@
 -- The edge table holds: a first chunk that begins with a trigger reaches every place whole, and the machines' own lines say what
 -- it does there. Assumes nothing.
 use mathlib.Core.Path.{_≡_, refl, sym, ap, subst, _∙_}
-use mathlib.Core.Bool.{Bool, true, false, cond}
-use mathlib.Core.List.{List, [], _∷_, map}
+use mathlib.Core.Bool.{Bool, true, false}
+use mathlib.Core.List.{List, [], _∷_}
 use Prim.Native.Nat.{ℕ, suc, _+_, _*_, _^_, _<_, _≤_}
 use native.Mathlib.Omega.{arith}
 use lib.Dec.{eqb}
@@ -11,14 +11,12 @@ use lib.ListN.{length, getD, set, length-set}
 use lib.Seq.{getD-set-same, getD-set-other}
 use borrow.Author.Tests.{le-leb, ne-eqb}
 use Rattle.laws.specs.Carried.{carried}
-use Rattle.laws.specs.Each.{map-at, map-length}
+use Rattle.laws.specs.Each.{map-at}
 use Rattle.laws.specs.Limit.{limit}
 use Rattle.laws.specs.Lists.{count, last}
-use Rattle.laws.specs.Run.{Out, none, live, plus, run}
+use Rattle.laws.specs.Run.{Out, live, plus, run}
 use Rattle.laws.specs.Still.{Lives}
 use Rattle.laws.specs.Tests.{either}
-use Rattle.weights.specs.Weights.{placeOf, weightOf, longWord}
-use Rattle.octets.specs.Octets.{nonAscii}
 use Rattle.context.specs.Context.{bytesOf, contextOf, pushOf}
 use Rattle.context.specs.Head.{escape, isTrigger, headOf, scanOf}
 use Rattle.context.specs.declared.Context.{Context}
@@ -50,16 +48,14 @@ use Rattle.places.specs.PlaceLaws.{feed-open}
 use Rattle.places.specs.Slate as slate
 use Rattle.places.specs.SlateLaws.{feed-all-nil}
 use Rattle.places.specs.declared.place.Place.{Place}
-use Rattle.places.specs.declared.place.Score.{Score}
-use Rattle.places.specs.declared.place.Score.the-variants.{None, Live}
+use Rattle.places.specs.declared.place.Score.the-variants.{Live}
 use Rattle.detector.specs.Feed.{placesBy, advanceOf, accepted, feedOf, Fit}
 use Rattle.detector.specs.FeedLaws.{judged-accept, feed-accepted}
-use Rattle.detector.specs.Front.{fresh, foundAs, triggerOf, none as nothing, some, reachesAt, reachesBy, reachesOf, contextAt, contextBy, escBy}
+use Rattle.detector.specs.Front.{fresh, foundAs, triggerOf, some, reachesAt, reachesBy, reachesOf, contextBy, escBy}
 use Rattle.detector.specs.Order.{InOrder}
 use Rattle.detector.specs.OrderLaws.{true-order, start-in-order, advance-in-order}
 use Rattle.detector.specs.State.{startOf}
 use Rattle.detector.specs.declared.feed.Fed.{Fed}
-use Rattle.detector.specs.declared.front.Front.{Front}
 use Rattle.detector.specs.declared.state.State.{State}
 use Rattle.edges.specs.Edges.{after, FedAs, Leaves, withoutLong, Adds, EdgeTable}
 
@@ -76,6 +72,13 @@ module _ (t : Tables) (s : State) (xs : List ℕ) (fit : Fit t s xs) where
 first-fit : (t : Tables) → Sized t → (bits : ℕ) (xs : List ℕ) → length xs ≤ limit → Fit t (startOf bits) xs
 first-fit t z bits xs h = record { sized = z; in-order = start-in-order bits; going = refl; short = omega (arith, h) }
 
+module _ (t : Tables) (z : Sized t) (bits : ℕ) where
+  first-is : (xs : List ℕ) → length xs ≤ limit → (last : Bool) → feedOf t (startOf bits) xs last ≡ accepted (advanceOf t (startOf bits) xs last)
+  first-is xs h last = fed-is t (startOf bits) xs (first-fit t z bits xs h) last
+
+  first-as : (xs part : List ℕ) → length xs ≤ limit → reachesOf fresh xs ≡ some [] part → FedAs t (startOf bits) xs [] part
+  first-as xs part h e = fed-as t (startOf bits) xs (first-fit t z bits xs h) [] part e
+
 -- where it begins with a trigger, all of it is fed
 first-reaches : (b : ℕ) (bs : List ℕ) → isTrigger b ≡ true → reachesOf fresh (b ∷ bs) ≡ some [] (b ∷ bs)
 unfolding reachesBy reachesAt triggerOf scanOf headOf
@@ -83,15 +86,12 @@ first-reaches b bs e =
     rw e (either (λ (r : Scanned). reachesBy (contextOf []) (b ∷ bs) (foundAs r) ≡ some [] (b ∷ bs)) (eqb b escape) (λ q. refl) (λ q. refl))
 
 module _ (t : Tables) (z : Sized t) (bits b : ℕ) (bs : List ℕ) (short : length (b ∷ bs) ≤ limit) (e : isTrigger b ≡ true) where
-  first-fed : FedAs t (startOf bits) (b ∷ bs) [] (b ∷ bs)
-  first-fed = fed-as t (startOf bits) (b ∷ bs) (first-fit t z bits (b ∷ bs) short) [] (b ∷ bs) (first-reaches b bs e)
-
   -- a place that takes part is left with the outcome of its machine's run
   first-leaves : (k : ℕ) (m : Machine) (o : Outcome) → k < 8 → ((d : Place) → getD (slate.startOf bits) k d ≡ place m (slate.takenOf bits (2 ^ k))) → run (stepOf t) (live m (pos 0)) (b ∷ bs) ≡ o → Leaves t bits k (b ∷ bs) (placeAs m o)
   unfolding slate.startOf
   first-leaves k m o h at q take d =
       let ps = slate.startOf bits in
-      ap (λ (l : List Place). getD l k d) (first-fed .fed false ∙ ap (slate.feedAll t false (b ∷ bs)) (feed-all-nil t ps))
+      ap (λ (l : List Place). getD l k d) (first-as t z bits (b ∷ bs) (b ∷ bs) short (first-reaches b bs e) .fed false ∙ ap (slate.feedAll t false (b ∷ bs)) (feed-all-nil t ps))
       ∙ (map-at (feedPlace t false (b ∷ bs)) k ps d h
       ∙ (ap (feedPlace t false (b ∷ bs)) (at d ∙ ap (place m) take)
       ∙ (sym (feed-open t (b ∷ bs) (place m (Live (pos 0))) (pos 0) refl) ∙ ap (placeAs m) q)))
@@ -118,6 +118,13 @@ module _ (t : Tables) (z : Sized t) (bits : ℕ) (c : Context) (n : ℕ) (o : In
     saved-in-order = rw saved-as at (advance-in-order t (saving bits c n) xs false saving-fit (rw e tt))
 
 -- ---- the lines on the machines: a place's run is its machine's own
+-- what EUC-KR and Big5 are lent
+abbrev toEucKr : Tables → euckr.Lent
+toEucKr t = euckr.lent (t .euckr) (t .extras) (euckr.scaleOf (t .weights))
+
+abbrev toBig5 : Tables → big5.Lent
+toBig5 t = big5.lent (t .big5) (big5.scaleOf (t .weights))
+
 module _ (t : Tables) (z : Sized t) (bits b : ℕ) (bs : List ℕ) (short : length (b ∷ bs) ≤ limit) (e : isTrigger b ≡ true) where
   utf-8-leaves : (o : Out (Unit {0}) Utf8Record) → run utf-8.stepOf (live utf-8.fresh (pos 0)) (b ∷ bs) ≡ o → Leaves t bits 0 (b ∷ bs) (placeAs (Utf8 utf-8.fresh) (carried Utf8 o))
   unfolding slate.startOf
@@ -127,11 +134,11 @@ module _ (t : Tables) (z : Sized t) (bits b : ℕ) (bs : List ℕ) (short : leng
   unfolding slate.startOf
   iso2022jp-leaves o q = first-leaves t z bits b bs short e 1 (Iso2022Jp iso2022jp.fresh) (carried Iso2022Jp o) (omega arith) (λ (d : Place). refl) (run-iso2022jp t (pos 0) (b ∷ bs) iso2022jp.fresh ∙ ap (carried Iso2022Jp) q)
 
-  euckr-leaves : (o : Out (Unit {0}) EucKrRecord) → run (euckr.stepOf (euckr.lent (t .euckr) (t .extras) (euckr.scaleOf (t .weights)))) (live euckr.freshOf (pos 0)) (b ∷ bs) ≡ o → Leaves t bits 2 (b ∷ bs) (placeAs (EucKr euckr.freshOf) (carried EucKr o))
+  euckr-leaves : (o : Out (Unit {0}) EucKrRecord) → run (euckr.stepOf (toEucKr t)) (live euckr.freshOf (pos 0)) (b ∷ bs) ≡ o → Leaves t bits 2 (b ∷ bs) (placeAs (EucKr euckr.freshOf) (carried EucKr o))
   unfolding slate.startOf
   euckr-leaves o q = first-leaves t z bits b bs short e 2 (EucKr euckr.freshOf) (carried EucKr o) (omega arith) (λ (d : Place). refl) (run-euckr t (pos 0) (b ∷ bs) euckr.freshOf ∙ ap (carried EucKr) q)
 
-  big5-leaves : (o : Out (Unit {0}) Big5Record) → run (big5.stepOf (big5.lent (t .big5) (big5.scaleOf (t .weights)))) (live big5.freshOf (pos 0)) (b ∷ bs) ≡ o → Leaves t bits 3 (b ∷ bs) (placeAs (Big5 big5.freshOf) (carried Big5 o))
+  big5-leaves : (o : Out (Unit {0}) Big5Record) → run (big5.stepOf (toBig5 t)) (live big5.freshOf (pos 0)) (b ∷ bs) ≡ o → Leaves t bits 3 (b ∷ bs) (placeAs (Big5 big5.freshOf) (carried Big5 o))
   unfolding slate.startOf
   big5-leaves o q = first-leaves t z bits b bs short e 3 (Big5 big5.freshOf) (carried Big5 o) (omega arith) (λ (d : Place). refl) (run-big5 t (pos 0) (b ∷ bs) big5.freshOf ∙ ap (carried Big5) q)
 
@@ -167,14 +174,10 @@ scale-without w h =
     other i l = getD-set-other w 16 i (pos 0) (pos 0) (λ q. omega (arith, q, l))
 
 module _ (t : Tables) (z : Sized t) (bits : ℕ) where
-  -- what EUC-KR is lent
-  abbrev lent : euckr.Lent
-  lent = euckr.lent (t .euckr) (t .extras) (euckr.scaleOf (t .weights))
-
-  same-lent : euckr.lent (t .euckr) (t .extras) (euckr.scaleOf (set (t .weights) 16 (pos 0))) ≡ euckr-edges.shortWords lent
+  same-lent : toEucKr (withoutLong t) ≡ euckr-edges.shortWords (toEucKr t)
   same-lent = ap (euckr.lent (t .euckr) (t .extras)) (scale-without (t .weights) (rw (lengths-of t z .weights-length) (omega arith)))
 
-  adds-at : (b : ℕ) (bs : List ℕ) (k : ℤ) → length (b ∷ bs) ≤ limit → isTrigger b ≡ true → Lives (run (euckr.stepOf (euckr-edges.shortWords lent)) (live euckr.freshOf (pos 0)) (b ∷ bs)) → run (euckr.stepOf lent) (live euckr.freshOf (pos 0)) (b ∷ bs) ≡ plus k (run (euckr.stepOf (euckr-edges.shortWords lent)) (live euckr.freshOf (pos 0)) (b ∷ bs)) → Adds t bits (b ∷ bs) k
+  adds-at : (b : ℕ) (bs : List ℕ) (k : ℤ) → length (b ∷ bs) ≤ limit → isTrigger b ≡ true → Lives (run (euckr.stepOf (euckr-edges.shortWords (toEucKr t))) (live euckr.freshOf (pos 0)) (b ∷ bs)) → run (euckr.stepOf (toEucKr t)) (live euckr.freshOf (pos 0)) (b ∷ bs) ≡ plus k (run (euckr.stepOf (euckr-edges.shortWords (toEucKr t))) (live euckr.freshOf (pos 0)) (b ∷ bs)) → Adds t bits (b ∷ bs) k
   unfolding placeAs carried plus
   adds-at b bs k h e l line =
       let m = l .0 in
@@ -186,19 +189,12 @@ module _ (t : Tables) (z : Sized t) (bits : ℕ) where
         with = euckr-leaves t z bits b bs h e (live m (s +ℤ k)) (line ∙ (ap (plus k) (l .1 .1) ∙ ap (live m) (+ℤ-comm k s)));
       }
 
-  adds : (n : ℕ) (k : ℤ) → suc n ≤ 7 → ((xs : List ℕ) → Word (t .euckr) (suc n) xs → run (euckr.stepOf lent) (live euckr.freshOf (pos 0)) xs ≡ plus k (run (euckr.stepOf (euckr-edges.shortWords lent)) (live euckr.freshOf (pos 0)) xs)) → (xs : List ℕ) → Word (t .euckr) (suc n) xs → Adds t bits xs k
+  adds : (n : ℕ) (k : ℤ) → suc n ≤ 7 → ((xs : List ℕ) → Word (t .euckr) (suc n) xs → run (euckr.stepOf (toEucKr t)) (live euckr.freshOf (pos 0)) xs ≡ plus k (run (euckr.stepOf (euckr-edges.shortWords (toEucKr t))) (live euckr.freshOf (pos 0)) xs)) → (xs : List ℕ) → Word (t .euckr) (suc n) xs → Adds t bits xs k
   adds n₁ k h line xs (a-hangul n lead b bs pair rest) =
       let w = a-hangul n lead b bs pair rest in
-      adds-at lead (b ∷ bs) k (omega (arith, word-length (t .euckr) (suc n) (lead ∷ b ∷ bs) w)) (lead-trigger lead (pair .a-lead)) (word-lives (euckr-edges.shortWords lent) (suc n) (lead ∷ b ∷ bs) w euckr.freshOf (pos 0) refl) (line (lead ∷ b ∷ bs) w)
+      adds-at lead (b ∷ bs) k (omega (arith, word-length (t .euckr) (suc n) (lead ∷ b ∷ bs) w)) (lead-trigger lead (pair .a-lead)) (word-lives (euckr-edges.shortWords (toEucKr t)) (suc n) (lead ∷ b ∷ bs) w euckr.freshOf (pos 0) refl) (line (lead ∷ b ∷ bs) w)
 
--- ---- the lines on the front end
-module _ (t : Tables) (z : Sized t) (bits : ℕ) where
-  first-is : (xs : List ℕ) → length xs ≤ limit → (last : Bool) → feedOf t (startOf bits) xs last ≡ accepted (advanceOf t (startOf bits) xs last)
-  first-is xs h last = fed-is t (startOf bits) xs (first-fit t z bits xs h) last
-
-  first-as : (xs part : List ℕ) → length xs ≤ limit → reachesOf fresh xs ≡ some [] part → FedAs t (startOf bits) xs [] part
-  first-as xs part h e = fed-as t (startOf bits) xs (first-fit t z bits xs h) [] part e
-
+-- ---- the table
 -- The table holds, over all lent data of exact lengths, from any start.
 pub edge-table : (t : Tables) → Sized t → (bits : ℕ) → EdgeTable t bits
 unfolding advanceOf triggerOf reachesBy reachesAt scanOf headOf escBy pushOf last count placeAs carried freshIn big5.scaleOf euckr.scaleOf
@@ -207,14 +203,13 @@ edge-table t z bits =
     let c₁ = contextOf (0x61 ∷ []) in
     let c₂ = contextOf (0x61 ∷ 0x62 ∷ []) in
     let c = contextOf (0x62 ∷ 0x63 ∷ []) in
-    let o₁ = saved-in-order t z bits (contextOf []) 0 (start-in-order bits) (0x61 ∷ []) (omega arith) refl in
+    let o₁ = saved-in-order t z bits (contextOf []) 0 start (0x61 ∷ []) (omega arith) refl in
     let o₂ = saved-in-order t z bits c₁ 1 o₁ (0x62 ∷ []) (omega arith) refl in
-    let o = saved-in-order t z bits (contextOf []) 0 (start-in-order bits) (0x62 ∷ 0x63 ∷ []) (omega arith) refl in
-    let e₁ = saved-is t z bits (contextOf []) 0 (start-in-order bits) (0x61 ∷ []) (omega arith) refl in
+    let o = saved-in-order t z bits (contextOf []) 0 start (0x62 ∷ 0x63 ∷ []) (omega arith) refl in
+    let e₁ = saved-is t z bits (contextOf []) 0 start (0x61 ∷ []) (omega arith) refl in
     let e₂ = saved-is t z bits c₁ 1 o₁ (0x62 ∷ []) (omega arith) refl in
     let e₃ = saved-is t z bits c₂ 2 o₂ (0x63 ∷ []) (omega arith) refl in
-    let e = saved-is t z bits (contextOf []) 0 (start-in-order bits) (0x62 ∷ 0x63 ∷ []) (omega arith) refl in
-    let big5-lent = big5.lent (t .big5) (big5.scaleOf (t .weights)) in
+    let e = saved-is t z bits (contextOf []) 0 start (0x62 ∷ 0x63 ∷ []) (omega arith) refl in
     record {
       no-bytes = λ (last : Bool). ap (λ (f : Fed). f .state .front .«non_ascii_seen») (first-is t z bits [] (omega arith) last);
       saved-singly = ap (λ (s : State). bytesOf (s .front .context)) (ap (λ (s : State). after t s (0x63 ∷ [])) (ap (λ (s : State). after t s (0x62 ∷ [])) e₁ ∙ e₂) ∙ e₃);
@@ -230,11 +225,11 @@ edge-table t z bits =
       utf-8-f4-90-80-80 = utf-8-leaves t z bits _ _ (omega arith) refl _ (utf-8-edges.f4-90-80-80 (pos 0));
       utf-8-c0-80 = utf-8-leaves t z bits _ _ (omega arith) refl _ (utf-8-edges.c0-80 (pos 0));
       iso2022jp-escapes = iso2022jp-leaves t z bits _ _ (omega arith) refl _ (iso2022jp-edges.second-escape (t .jis) (pos 0));
-      big5-fd-ff = big5-leaves t z bits _ _ (omega arith) refl _ (big5-edges.fd-ff big5-lent);
-      big5-fd-61 = λ q. big5-leaves t z bits _ _ (omega arith) refl _ (big5-edges.fd-61 big5-lent q);
-      big5-a4-ff = big5-leaves t z bits _ _ (omega arith) refl _ (big5-edges.a4-ff big5-lent);
-      big5-lone-80 = big5-leaves t z bits _ _ (omega arith) refl _ (big5-edges.lone-80 big5-lent);
-      euckr-five = adds t z bits 4 _ (omega arith) (euckr-edges.five (lent t z bits));
-      euckr-six = adds t z bits 5 _ (omega arith) (euckr-edges.six (lent t z bits));
-      euckr-seven = adds t z bits 6 _ (omega arith) (euckr-edges.seven (lent t z bits));
+      big5-fd-ff = big5-leaves t z bits _ _ (omega arith) refl _ (big5-edges.fd-ff (toBig5 t));
+      big5-fd-61 = λ q. big5-leaves t z bits _ _ (omega arith) refl _ (big5-edges.fd-61 (toBig5 t) q);
+      big5-a4-ff = big5-leaves t z bits _ _ (omega arith) refl _ (big5-edges.a4-ff (toBig5 t));
+      big5-lone-80 = big5-leaves t z bits _ _ (omega arith) refl _ (big5-edges.lone-80 (toBig5 t));
+      euckr-five = adds t z bits 4 _ (omega arith) (euckr-edges.five (toEucKr t));
+      euckr-six = adds t z bits 5 _ (omega arith) (euckr-edges.six (toEucKr t));
+      euckr-seven = adds t z bits 6 _ (omega arith) (euckr-edges.seven (toEucKr t));
     }
