@@ -9,6 +9,7 @@ use borrow.Author.Tests.{ne-eqb, le-ltb}
 use lib.IntN.{ℤ, pos, _+ℤ_, +ℤ-idl, +ℤ-idr, +ℤ-assoc, +ℤ-comm}
 use lib.ListN.{getD}
 use Rattle.laws.specs.Run.{Out, live, plus, plus-plus, feed, run, run-plus}
+use Rattle.laws.specs.Still.{Lives}
 use Rattle.octets.specs.Octets.{between}
 use Rattle.pairs.specs.Pairs.{isLead, decoded, firstOf}
 use Rattle.pairs.specs.PairsLaws.{lead-bounds}
@@ -204,6 +205,12 @@ module _ (t : Lent) (n lead b : ℕ) (bs : List ℕ) (pair : HangulPair (t .inde
 pub word-run : (t : Lent) (n : ℕ) (bs : List ℕ) → Word (t .index) n bs → (m : EucKr) (s : ℤ) → m .lead ≡ 0 → run (stepOf t) (live m s) bs ≡ plus (longsOf (t .scale) (m .«current_word_len») n) (run (stepOf (shortWords t)) (live m s) bs)
 word-run t n bs no-hangul m s z = no-bytes t m s
 word-run t n₁ bs₁ (a-hangul n lead b bs pair rest) m s z = more-bytes t n lead b bs pair m s z (λ o y e. word-run t n bs rest o y e)
+
+-- and it lives
+pub word-lives : (t : Lent) (n : ℕ) (bs : List ℕ) → Word (t .index) n bs → (m : EucKr) (s : ℤ) → m .lead ≡ 0 → Lives (run (stepOf t) (live m s) bs)
+unfolding run plus
+word-lives t n bs no-hangul m s z = (m, (s, refl))
+word-lives t n₁ bs₁ (a-hangul n lead b bs pair rest) m s z = rw (pair-run t lead b pair m s bs z) (word-lives t n bs rest _ _ refl)
 
 -- ---- the edge lines: five Hangul, six, seven
 five-zeros : (x : ℤ) → pos 0 +ℤ (pos 0 +ℤ (pos 0 +ℤ (pos 0 +ℤ (pos 0 +ℤ x)))) ≡ x

@@ -1,0 +1,1 @@
+// The edge table only: see specs/.
