@@ -1,0 +1,68 @@
+// The words of the format.
+use big5::LatinCj;
+use euckr::LatinKorean;
+use iso2022jp::DecoderState;
+use iso2022jp::OutputState;
+use scribe::page;
+use single::arabic_french::LatinCaseState;
+
+// The name of a place by its number; the last one's for any above.
+pub fn place(out: &mut [u8], at: usize, k: usize) -> usize {
+    match k {
+        0 => page::word(out, at, b"utf-8"),
+        1 => page::word(out, at, b"iso-2022-jp"),
+        2 => page::word(out, at, b"euc-kr"),
+        3 => page::word(out, at, b"big5"),
+        4 => page::word(out, at, b"caseless"),
+        5 => page::word(out, at, b"logical"),
+        6 => page::word(out, at, b"visual"),
+        _ => page::word(out, at, b"arabic-french"),
+    }
+}
+
+pub fn decoder_state(out: &mut [u8], at: usize, s: DecoderState) -> usize {
+    match s {
+        DecoderState::Ascii => page::word(out, at, b"ascii"),
+        DecoderState::Roman => page::word(out, at, b"roman"),
+        DecoderState::Katakana => page::word(out, at, b"katakana"),
+        DecoderState::LeadByte => page::word(out, at, b"lead"),
+        DecoderState::TrailByte => page::word(out, at, b"trail"),
+        DecoderState::EscapeStart => page::word(out, at, b"escape-start"),
+        DecoderState::Escape => page::word(out, at, b"escape"),
+    }
+}
+
+pub fn output_state(out: &mut [u8], at: usize, s: OutputState) -> usize {
+    match s {
+        OutputState::Ascii => page::word(out, at, b"ascii"),
+        OutputState::Roman => page::word(out, at, b"roman"),
+        OutputState::Katakana => page::word(out, at, b"katakana"),
+        OutputState::LeadByte => page::word(out, at, b"lead"),
+    }
+}
+
+pub fn korean(out: &mut [u8], at: usize, kind: LatinKorean) -> usize {
+    match kind {
+        LatinKorean::AsciiLetter => page::word(out, at, b"letter"),
+        LatinKorean::Hangul => page::word(out, at, b"hangul"),
+        LatinKorean::Hanja => page::word(out, at, b"hanja"),
+        LatinKorean::Other => page::word(out, at, b"other"),
+    }
+}
+
+pub fn cj(out: &mut [u8], at: usize, kind: LatinCj) -> usize {
+    match kind {
+        LatinCj::AsciiLetter => page::word(out, at, b"letter"),
+        LatinCj::Cj => page::word(out, at, b"cj"),
+        LatinCj::Other => page::word(out, at, b"other"),
+    }
+}
+
+pub fn case(out: &mut [u8], at: usize, case: LatinCaseState) -> usize {
+    match case {
+        LatinCaseState::Space => page::word(out, at, b"space"),
+        LatinCaseState::Upper => page::word(out, at, b"upper"),
+        LatinCaseState::Lower => page::word(out, at, b"lower"),
+        LatinCaseState::AllCaps => page::word(out, at, b"caps"),
+    }
+}
