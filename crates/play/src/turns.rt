@@ -156,7 +156,7 @@ fn turn(
     let span = t.span;
     let at = span.at;
     let end = span.end;
-    let found = command::command(&window[at..end]);
+    let found = command::read(&window[at..end]);
     match found {
         Command::Start(bits) => t.started(bits),
         Command::Feed(last, length) => fed(

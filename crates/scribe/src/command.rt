@@ -1,4 +1,7 @@
 // The commands, read from the bytes at hand.
+ghost use mathlib.Core.Path.{_≡_};
+ghost use Rattle.scribe.specs.Command.{startOf, feedOf, readOf};
+use crate::number;
 
 // A chunk's bytes at most.
 pub const CHUNK: usize = 65_536;
@@ -19,26 +22,25 @@ pub enum Command {
     Bad,
 }
 
-fn wide(b: u8) -> usize {
-    b as usize
-}
-
-fn start(bytes: &[u8]) -> Command {
+fn start(bytes: &[u8]) -> Command
+    ensures { λ r. ⌜ r ≡ startOf (now (bytes .entry)) ⌝ }
+{
     if bytes.len() < 2 {
         return Command::More(2);
     }
     Command::Start(bytes[1])
 }
 
-fn feed(bytes: &[u8]) -> Command {
+fn feed(bytes: &[u8]) -> Command
+    ensures { λ r. ⌜ r ≡ feedOf (now (bytes .entry)) ⌝ }
+{
     if bytes.len() < HEAD {
         return Command::More(HEAD);
     }
     if 1 < bytes[1] {
         return Command::Bad;
     }
-    let low = wide(bytes[2]) + 256 * wide(bytes[3]);
-    let length = low + 65_536 * (wide(bytes[4]) + 256 * wide(bytes[5]));
+    let length = number::whole(bytes[2], bytes[3], bytes[4], bytes[5]) as usize;
     if CHUNK < length {
         return Command::Bad;
     }
@@ -49,7 +51,9 @@ fn feed(bytes: &[u8]) -> Command {
 }
 
 // The command with which the bytes begin.
-pub fn command(bytes: &[u8]) -> Command {
+pub fn read(bytes: &[u8]) -> Command
+    ensures { λ r. ⌜ r ≡ readOf (now (bytes .entry)) ⌝ }
+{
     if bytes.len() < 1 {
         return Command::More(1);
     }

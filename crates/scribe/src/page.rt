@@ -1,5 +1,13 @@
 // A buffer and how far it is written. What finds no room falls off; each call answers where the next text goes.
-pub fn byte(out: &mut [u8], at: usize, b: u8) -> usize {
+ghost use mathlib.Core.Path.{_≡_};
+ghost use Prim.Native.Nat.{_<_};
+ghost use Rattle.io.specs.Digits.{glyph};
+ghost use Rattle.scribe.specs.Page.{page, put, onto};
+ghost use Rattle.scribe.specs.Text.{flagOf, hexOf, decimalOf, signedOf};
+
+pub fn byte(out: &mut [u8], at: usize, b: u8) -> usize
+    ensures { λ r. ⌜ page (now (out .exit)) r ≡ put (page (now (out .entry)) at) b ⌝ }
+{
     if at < out.len() {
         out[at] = b;
         return at + 1;
@@ -7,7 +15,9 @@ pub fn byte(out: &mut [u8], at: usize, b: u8) -> usize {
     out.len()
 }
 
-pub fn word(out: &mut [u8], at: usize, text: &[u8]) -> usize {
+pub fn word(out: &mut [u8], at: usize, text: &[u8]) -> usize
+    ensures { λ r. ⌜ page (now (out .exit)) r ≡ onto (page (now (out .entry)) at) (now (text .entry)) ⌝ }
+{
     let mut to = at;
     let mut i = 0;
     while i < text.len() {
@@ -17,7 +27,10 @@ pub fn word(out: &mut [u8], at: usize, text: &[u8]) -> usize {
     to
 }
 
-fn digit(d: u8) -> u8 {
+fn digit(d: u8) -> u8
+    requires { ⌜ d < 16 ⌝ }
+    ensures { λ r. ⌜ r ≡ glyph d ⌝ }
+{
     if d < 10 {
         return 48 + d;
     }
@@ -25,25 +38,33 @@ fn digit(d: u8) -> u8 {
 }
 
 // Two hexadecimal digits.
-pub fn hex(out: &mut [u8], at: usize, b: u8) -> usize {
+pub fn hex(out: &mut [u8], at: usize, b: u8) -> usize
+    ensures { λ r. ⌜ page (now (out .exit)) r ≡ onto (page (now (out .entry)) at) (hexOf b) ⌝ }
+{
     let second = byte(out, at, digit(b / 16));
     byte(out, second, digit(b % 16))
 }
 
-pub fn flag(out: &mut [u8], at: usize, f: bool) -> usize {
+pub fn flag(out: &mut [u8], at: usize, f: bool) -> usize
+    ensures { λ r. ⌜ page (now (out .exit)) r ≡ onto (page (now (out .entry)) at) (flagOf f) ⌝ }
+{
     if f {
         return byte(out, at, b'1');
     }
     byte(out, at, b'0')
 }
 
-pub fn decimal(out: &mut [u8], at: usize, n: u64) -> usize {
+pub fn decimal(out: &mut [u8], at: usize, n: u64) -> usize
+    ensures { λ r. ⌜ page (now (out .exit)) r ≡ onto (page (now (out .entry)) at) (decimalOf n) ⌝ }
+{
     let mut digits = [0u8; 20];
     let count = io::decimal(n, &mut digits);
     word(out, at, &digits[..count])
 }
 
-pub fn signed(out: &mut [u8], at: usize, z: i64) -> usize {
+pub fn signed(out: &mut [u8], at: usize, z: i64) -> usize
+    ensures { λ r. ⌜ page (now (out .exit)) r ≡ onto (page (now (out .entry)) at) (signedOf z) ⌝ }
+{
     if z < 0 {
         let digits = byte(out, at, b'-');
         return decimal(out, digits, signed::size(z));

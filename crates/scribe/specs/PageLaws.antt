@@ -1,0 +1,22 @@
+-- A text that finds room stands on the page as it is. Assumes nothing.
+use mathlib.Core.Path.{_≡_, ap, _∙_}
+use mathlib.Core.List.{List, [], _∷_, _++_}
+use Prim.Native.Nat.{ℕ, suc, _+_, _≤_}
+use native.Mathlib.Nat.{add-zero}
+use native.Mathlib.Numerals.{add-one}
+use native.Mathlib.Omega.{arith}
+use lib.ListN.{length, take, drop, set, length-set}
+use lib.Seq.{sets, sets-eq}
+use Rattle.scribe.specs.Page.{page, put, onto, room}
+
+stored : (ts xs : List ℕ) (at : ℕ) → at + length ts ≤ length xs → onto (page xs at) ts ≡ page (sets xs at ts) (at + length ts)
+unfolding onto
+stored [] xs at h = ap (page xs) (omega arith)
+stored (t ∷ ts) xs at h =
+    let l : length (set xs at t) ≡ length xs = length-set xs at t in
+    let n : at + 1 + length ts ≡ at + suc (length ts) = omega arith in
+    rw (← room xs at t (omega arith), stored ts (set xs at t) (at + 1) (omega arith), n, add-one)
+
+-- what stood before it and after it stays
+pub written : (ts xs : List ℕ) (at : ℕ) → at + length ts ≤ length xs → onto (page xs at) ts ≡ page (take at xs ++ ts ++ drop (at + length ts) xs) (at + length ts)
+written ts xs at h = stored ts xs at h ∙ rw (sets-eq ts xs at h)

@@ -1,0 +1,29 @@
+-- Flags and numbers as text, in ASCII. Assumes nothing.
+use mathlib.Core.Bool.{Bool, cond}
+use mathlib.Core.List.{List, [], _∷_, _++_}
+use Prim.Native.Nat.{ℕ, zero, suc, _/_, _%_}
+use lib.Dec.{ltb}
+use lib.IntN.{ℤ, pos, negsuc}
+use Rattle.io.specs.Digits.{glyph}
+
+-- `1` or `0`
+unfoldable pub flagOf : Bool → List ℕ
+flagOf f = cond f (49 ∷ []) (48 ∷ [])
+
+-- two digits, small letters
+unfoldable pub hexOf : ℕ → List ℕ
+hexOf b = glyph (b / 16) ∷ glyph (b % 16) ∷ []
+
+-- the last k digits, without leading zeros
+unfoldable pub decimalIn : ℕ → ℕ → List ℕ
+decimalIn zero n = []
+decimalIn (suc k) n = cond (ltb n 10) (glyph n ∷ []) (decimalIn k (n / 10) ++ (glyph (n % 10) ∷ []))
+
+-- a number of 64 bits has 20 digits at most
+unfoldable pub decimalOf : ℕ → List ℕ
+decimalOf n = decimalIn 20 n
+
+-- with a leading `-` where it is below zero
+unfoldable pub signedOf : ℤ → List ℕ
+signedOf (pos n) = decimalOf n
+signedOf (negsuc n) = 45 ∷ decimalOf (suc n)
