@@ -1,4 +1,7 @@
 // The words of the format.
+ghost use mathlib.Core.Path.{_≡_};
+ghost use Rattle.lines.specs.Names.{placeName, stateName, outName, koreanName, cjName, caseName};
+ghost use Rattle.scribe.specs.Page.{page, onto};
 use big5::LatinCj;
 use euckr::LatinKorean;
 use iso2022jp::DecoderState;
@@ -7,7 +10,9 @@ use scribe::page;
 use single::arabic_french::LatinCaseState;
 
 // The name of a place by its number; the last one's for any above.
-pub fn place(out: &mut [u8], at: usize, k: usize) -> usize {
+pub fn place(out: &mut [u8], at: usize, k: usize) -> usize
+    ensures { λ r. ⌜ page (now (out .exit)) r ≡ onto (page (now (out .entry)) at) (placeName k) ⌝ }
+{
     match k {
         0 => page::word(out, at, b"utf-8"),
         1 => page::word(out, at, b"iso-2022-jp"),
@@ -20,7 +25,9 @@ pub fn place(out: &mut [u8], at: usize, k: usize) -> usize {
     }
 }
 
-pub fn decoder_state(out: &mut [u8], at: usize, s: DecoderState) -> usize {
+pub fn decoder_state(out: &mut [u8], at: usize, s: DecoderState) -> usize
+    ensures { λ r. ⌜ page (now (out .exit)) r ≡ onto (page (now (out .entry)) at) (stateName s) ⌝ }
+{
     match s {
         DecoderState::Ascii => page::word(out, at, b"ascii"),
         DecoderState::Roman => page::word(out, at, b"roman"),
@@ -32,7 +39,9 @@ pub fn decoder_state(out: &mut [u8], at: usize, s: DecoderState) -> usize {
     }
 }
 
-pub fn output_state(out: &mut [u8], at: usize, s: OutputState) -> usize {
+pub fn output_state(out: &mut [u8], at: usize, s: OutputState) -> usize
+    ensures { λ r. ⌜ page (now (out .exit)) r ≡ onto (page (now (out .entry)) at) (outName s) ⌝ }
+{
     match s {
         OutputState::Ascii => page::word(out, at, b"ascii"),
         OutputState::Roman => page::word(out, at, b"roman"),
@@ -41,7 +50,9 @@ pub fn output_state(out: &mut [u8], at: usize, s: OutputState) -> usize {
     }
 }
 
-pub fn korean(out: &mut [u8], at: usize, kind: LatinKorean) -> usize {
+pub fn korean(out: &mut [u8], at: usize, kind: LatinKorean) -> usize
+    ensures { λ r. ⌜ page (now (out .exit)) r ≡ onto (page (now (out .entry)) at) (koreanName kind) ⌝ }
+{
     match kind {
         LatinKorean::AsciiLetter => page::word(out, at, b"letter"),
         LatinKorean::Hangul => page::word(out, at, b"hangul"),
@@ -50,7 +61,9 @@ pub fn korean(out: &mut [u8], at: usize, kind: LatinKorean) -> usize {
     }
 }
 
-pub fn cj(out: &mut [u8], at: usize, kind: LatinCj) -> usize {
+pub fn cj(out: &mut [u8], at: usize, kind: LatinCj) -> usize
+    ensures { λ r. ⌜ page (now (out .exit)) r ≡ onto (page (now (out .entry)) at) (cjName kind) ⌝ }
+{
     match kind {
         LatinCj::AsciiLetter => page::word(out, at, b"letter"),
         LatinCj::Cj => page::word(out, at, b"cj"),
@@ -58,7 +71,9 @@ pub fn cj(out: &mut [u8], at: usize, kind: LatinCj) -> usize {
     }
 }
 
-pub fn case(out: &mut [u8], at: usize, case: LatinCaseState) -> usize {
+pub fn case(out: &mut [u8], at: usize, case: LatinCaseState) -> usize
+    ensures { λ r. ⌜ page (now (out .exit)) r ≡ onto (page (now (out .entry)) at) (caseName case) ⌝ }
+{
     match case {
         LatinCaseState::Space => page::word(out, at, b"space"),
         LatinCaseState::Upper => page::word(out, at, b"upper"),

@@ -1,4 +1,10 @@
 // Whole lines: a reply, and the ten of a state.
+ghost use mathlib.Core.Path.{_≡_};
+ghost use mathlib.Core.List.{_++_};
+ghost use Rattle.context.specs.Context.{bytesOf};
+ghost use Rattle.lines.specs.Show.{newline, savedText, replyText, frontText, recordText, scoredText, placeText, placesText, leadText, stateText};
+ghost use Rattle.scribe.specs.Page.{page, onto};
+ghost use Rattle.scribe.specs.Text.{ascii};
 use crate::fields;
 use crate::names;
 use context::Context;
@@ -10,20 +16,27 @@ use detector::state::State;
 use kinds::machine::Machine;
 use places::place::Place;
 use places::place::Score;
+use places::place::Slate;
 use scribe::page;
 
-fn wide(b: u8) -> u64 {
-    b as u64
+fn end_line(out: &mut [u8], at: usize) -> usize
+    ensures { λ r. ⌜ page (now (out .exit)) r ≡ onto (page (now (out .entry)) at) newline ⌝ }
+{
+    page::byte(out, at, 0x0A)
 }
 
-pub fn reply(out: &mut [u8], at: usize, reply: Reply) -> usize {
-    let a = fields::count(out, at, b"reply ", wide(reply.number()));
+pub fn reply(out: &mut [u8], at: usize, reply: Reply) -> usize
+    ensures { λ r. ⌜ page (now (out .exit)) r ≡ onto (page (now (out .entry)) at) (replyText reply) ⌝ }
+{
+    let a = fields::count(out, at, b"reply ", fields::wide(reply.number()));
     let b = fields::flag(out, a, b" ", reply.flag());
-    page::byte(out, b, 0x0A)
+    end_line(out, b)
 }
 
 // The bytes of the saved context, or `-`.
-fn saved(out: &mut [u8], at: usize, context: Context) -> usize {
+fn saved(out: &mut [u8], at: usize, context: Context) -> usize
+    ensures { λ r. ⌜ page (now (out .exit)) r ≡ onto (page (now (out .entry)) at) (savedText (bytesOf context)) ⌝ }
+{
     let count = context.count();
     if count == 0 {
         return page::byte(out, at, b'-');
@@ -35,7 +48,9 @@ fn saved(out: &mut [u8], at: usize, context: Context) -> usize {
     page::hex(out, a, context.second)
 }
 
-pub fn front(out: &mut [u8], at: usize, front: Front) -> usize {
+pub fn front(out: &mut [u8], at: usize, front: Front) -> usize
+    ensures { λ r. ⌜ page (now (out .exit)) r ≡ onto (page (now (out .entry)) at) (frontText front) ⌝ }
+{
     let context = front.context;
     let a = page::word(out, at, b"front context=");
     let b = saved(out, a, context);
@@ -43,11 +58,13 @@ pub fn front(out: &mut [u8], at: usize, front: Front) -> usize {
     let d = fields::count(out, c, b" nonascii=", front.non_ascii_seen);
     let e = fields::flag(out, d, b" closed=", front.closed);
     let f = fields::count(out, e, b" bytes=", front.bytes);
-    page::byte(out, f, 0x0A)
+    end_line(out, f)
 }
 
 // The fields of any machine.
-fn record(out: &mut [u8], at: usize, machine: Machine) -> usize {
+fn machine_fields(out: &mut [u8], at: usize, machine: Machine) -> usize
+    ensures { λ r. ⌜ page (now (out .exit)) r ≡ onto (page (now (out .entry)) at) (recordText machine) ⌝ }
+{
     match machine {
         Machine::Utf8(m) => fields::utf8(out, at, m),
         Machine::Iso2022Jp(m) => fields::iso2022jp(out, at, m),
@@ -60,38 +77,64 @@ fn record(out: &mut [u8], at: usize, machine: Machine) -> usize {
     }
 }
 
-pub fn place(out: &mut [u8], at: usize, place: Place) -> usize {
+// What follows a place's name.
+fn scored(out: &mut [u8], at: usize, machine: Machine, score: Score) -> usize
+    ensures { λ r. ⌜ page (now (out .exit)) r ≡ onto (page (now (out .entry)) at) (scoredText machine score) ⌝ }
+{
+    let Score::Live(n) = score else {
+        return page::word(out, at, b" none\n");
+    };
+    let a = page::word(out, at, b" ");
+    let b = page::signed(out, a, n);
+    let c = machine_fields(out, b, machine);
+    end_line(out, c)
+}
+
+pub fn place(out: &mut [u8], at: usize, place: Place) -> usize
+    ensures { λ r. ⌜ page (now (out .exit)) r ≡ onto (page (now (out .entry)) at) (placeText place) ⌝ }
+{
     let machine = place.machine;
     let score = place.score;
     let a = names::place(out, at, machine.kind());
-    let Score::Live(n) = score else {
-        return page::word(out, a, b" none\n");
-    };
-    let b = page::byte(out, a, b' ');
-    let c = page::signed(out, b, n);
-    let d = record(out, c, machine);
-    page::byte(out, d, 0x0A)
+    scored(out, a, machine, score)
 }
 
-pub fn lead(out: &mut [u8], at: usize, leader: Leader) -> usize {
-    let a = page::word(out, at, b"leader ");
-    match leader {
-        Leader::Ascii => page::word(out, a, b"ascii\n"),
-        Leader::None => page::word(out, a, b"none\n"),
-        Leader::Place(k) => {
-            let b = names::place(out, a, k);
-            page::byte(out, b, 0x0A)
-        }
-    }
-}
-
-pub fn state(out: &mut [u8], at: usize, state: State) -> usize {
-    let places = state.places;
-    let mut to = front(out, at, state.front);
+fn places(out: &mut [u8], at: usize, slate: Slate) -> usize
+    ensures { λ r. ⌜ page (now (out .exit)) r ≡ onto (page (now (out .entry)) at) (placesText slate) ⌝ }
+{
+    let mut to = at;
     let mut k = 0;
     while k < 8 {
-        to = place(out, to, places[k]);
+        to = place(out, to, slate[k]);
         k += 1;
     }
-    lead(out, to, leader::leader(state))
+    to
+}
+
+fn leader_name(out: &mut [u8], at: usize, leader: Leader) -> usize
+    ensures { λ r. ⌜ page (now (out .exit)) r ≡ onto (page (now (out .entry)) at) (leadText leader) ⌝ }
+{
+    match leader {
+        Leader::Ascii => page::word(out, at, b"ascii"),
+        Leader::None => page::word(out, at, b"none"),
+        Leader::Place(k) => names::place(out, at, k),
+    }
+}
+
+pub fn lead(out: &mut [u8], at: usize, leader: Leader) -> usize
+    ensures { λ r. ⌜ page (now (out .exit)) r ≡ onto (page (now (out .entry)) at) (ascii "leader " ++ leadText leader ++ newline) ⌝ }
+{
+    let a = page::word(out, at, b"leader ");
+    let b = leader_name(out, a, leader);
+    end_line(out, b)
+}
+
+pub fn state(out: &mut [u8], at: usize, state: State) -> usize
+    ensures { λ r. ⌜ page (now (out .exit)) r ≡ onto (page (now (out .entry)) at) (stateText state) ⌝ }
+{
+    let first = state.front;
+    let slate = state.places;
+    let a = front(out, at, first);
+    let b = places(out, a, slate);
+    lead(out, b, leader::leader(state))
 }

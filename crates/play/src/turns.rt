@@ -1,4 +1,8 @@
 // Commands in turn, over the tables that are lent.
+ghost use mathlib.Core.Path.{_≡_};
+ghost use Prim.Native.Nat.{_+_, _≤_};
+ghost use lib.ListN.{length};
+ghost use Rattle.play.specs.Within.{Within};
 use crate::digest::Digest;
 use crate::input;
 use crate::input::Span;
@@ -26,7 +30,9 @@ struct Turn {
 
 impl Turn {
     // All but the place in the input stays as it was.
-    fn at(self, span: Span, next: Next) -> Turn {
+    fn at(self, span: Span, next: Next) -> Turn
+        ensures { λ r. ⌜ r .span ≡ span ⌝ }
+    {
         let state = self.state;
         let sink = self.sink;
         Turn {
@@ -37,7 +43,10 @@ impl Turn {
         }
     }
 
-    fn started(self, bits: u8) -> Turn {
+    fn started(self, bits: u8) -> Turn
+        requires { ⌜ self .span .at + 2 ≤ self .span .end ⌝ }
+        ensures { λ r. ⌜ (r .span .at ≡ self .span .at + 2) × (r .span .end ≡ self .span .end) ⌝ }
+    {
         let span = self.span;
         let sink = self.sink;
         Turn {
@@ -48,7 +57,10 @@ impl Turn {
         }
     }
 
-    fn shown(self) -> Turn {
+    fn shown(self) -> Turn
+        requires { ⌜ self .span .at + 1 ≤ self .span .end ⌝ }
+        ensures { λ r. ⌜ (r .span .at ≡ self .span .at + 1) × (r .span .end ≡ self .span .end) ⌝ }
+    {
         let state = self.state;
         let span = self.span;
         let sink = self.sink;
@@ -61,8 +73,12 @@ impl Turn {
     }
 
     // So many bytes are wanted. The input may end where no command has begun.
-    fn filled(self, window: &mut [u8], want: usize) -> Turn {
-        let span = input::fill(window, self.span, want);
+    fn filled(self, window: &mut [u8], want: usize) -> Turn
+        requires { ⌜ Within (length (now window)) (self .span) ⌝ }
+        ensures { λ r. ⌜ Within (length (now (window .entry))) (r .span) ⌝ }
+    {
+        let from = self.span;
+        let span = input::fill(window, from, want);
         if span.whole {
             return self.at(span, Next::Command);
         }
@@ -78,7 +94,7 @@ fn fed(
     window: &[u8],
     t: Turn,
     last: bool,
-    length: usize,
+    count: usize,
     classes4: &[u8],
     marks4: &[u8],
     pairs4: &[i16],
@@ -96,13 +112,18 @@ fn fed(
     jis: &[u32],
     extras: &[i16],
     weights: &[i32],
-) -> Turn {
+) -> Turn
+    requires { ⌜ Within (length (now window)) (t .span) ⌝ }
+    requires { ⌜ t .span .at + (6 + count) ≤ t .span .end ⌝ }
+    ensures { λ r. ⌜ Within (length (now (window .entry))) (r .span) ⌝ }
+{
     let span = t.span;
     let sink = t.sink;
+    let state = t.state;
     let from = span.at + command::HEAD;
     let fed = feed::feed(
-        t.state,
-        &window[from..from + length],
+        state,
+        &window[from..from + count],
         last,
         classes4,
         marks4,
@@ -122,11 +143,12 @@ fn fed(
         extras,
         weights,
     );
-    let state = fed.state;
+    let after = fed.state;
+    let reply = fed.reply;
     Turn {
-        state,
-        span: span.past(command::HEAD + length),
-        sink: sink.with_reply(fed.reply),
+        state: after,
+        span: span.past(command::HEAD + count),
+        sink: sink.with_reply(reply),
         next: Next::Command,
     }
 }
@@ -152,18 +174,21 @@ fn turn(
     jis: &[u32],
     extras: &[i16],
     weights: &[i32],
-) -> Turn {
+) -> Turn
+    requires { ⌜ Within (length (now window)) (t .span) ⌝ }
+    ensures { λ r. ⌜ Within (length (now (window .entry))) (r .span) ⌝ }
+{
     let span = t.span;
     let at = span.at;
     let end = span.end;
     let found = command::read(&window[at..end]);
     match found {
         Command::Start(bits) => t.started(bits),
-        Command::Feed(last, length) => fed(
+        Command::Feed(last, count) => fed(
             window,
             t,
             last,
-            length,
+            count,
             classes4,
             marks4,
             pairs4,
@@ -210,7 +235,10 @@ fn turns(
     jis: &[u32],
     extras: &[i16],
     weights: &[i32],
-) -> Turn {
+) -> Turn
+    requires { ⌜ Within (length (now window)) (from .span) ⌝ }
+    ensures { λ r. ⌜ Within (length (now (window .entry))) (r .span) ⌝ }
+{
     let mut t = from;
     let mut count: u64 = 0;
     while count < 0x4000_0000_0000_0000 {
@@ -251,7 +279,10 @@ fn single(
     classes: &mut [u8],
     marks: &mut [u8],
     pairs: &mut [i16],
-) -> Span {
+) -> Span
+    requires { ⌜ Within (length (now window)) span ⌝ }
+    ensures { λ r. ⌜ Within (length (now (window .entry))) r ⌝ }
+{
     let a = input::octets(window, span, classes);
     let b = input::octets(window, a, marks);
     input::halves(window, b, pairs)
@@ -278,7 +309,10 @@ fn lend(
     jis: &mut [u32],
     extras: &mut [i16],
     weights: &mut [i32],
-) -> Span {
+) -> Span
+    requires { ⌜ Within (length (now window)) span ⌝ }
+    ensures { λ r. ⌜ Within (length (now (window .entry))) r ⌝ }
+{
     let a = single(window, span, classes4, marks4, pairs4);
     let b = single(window, a, classes5, marks5, pairs5);
     let c = single(window, b, classes6, marks6, pairs6);
@@ -311,10 +345,14 @@ fn round(
     jis: &mut [u32],
     extras: &mut [i16],
     weights: &mut [i32],
-) -> Turn {
+) -> Turn
+    requires { ⌜ Within (length (now window)) (from .span) ⌝ }
+    ensures { λ r. ⌜ Within (length (now (window .entry))) (r .span) ⌝ }
+{
+    let first = from.span;
     let span = lend(
         window,
-        from.span,
+        first,
         classes4,
         marks4,
         pairs4,
@@ -359,7 +397,9 @@ fn round(
     )
 }
 
-fn begun(from: i32, aloud: bool) -> Turn {
+fn begun(from: i32, aloud: bool) -> Turn
+    ensures { λ r. ⌜ Within 0 (r .span) ⌝ }
+{
     if aloud {
         return Turn {
             state: state::start(0xFF),

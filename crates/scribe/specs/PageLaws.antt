@@ -7,7 +7,7 @@ use native.Mathlib.Numerals.{add-one}
 use native.Mathlib.Omega.{arith}
 use lib.ListN.{length, take, drop, set, length-set}
 use lib.Seq.{sets, sets-eq}
-use Rattle.scribe.specs.Page.{page, put, onto, room}
+use Rattle.scribe.specs.Page.{Page, page, put, onto, onto-append, room}
 
 stored : (ts xs : List ℕ) (at : ℕ) → at + length ts ≤ length xs → onto (page xs at) ts ≡ page (sets xs at ts) (at + length ts)
 unfolding onto
@@ -20,3 +20,7 @@ stored (t ∷ ts) xs at h =
 -- what stood before it and after it stays
 pub written : (ts xs : List ℕ) (at : ℕ) → at + length ts ≤ length xs → onto (page xs at) ts ≡ page (take at xs ++ ts ++ drop (at + length ts) xs) (at + length ts)
 written ts xs at h = stored ts xs at h ∙ rw (sets-eq ts xs at h)
+
+-- one text after the other
+pub follow : (p : Page) (xs ys : List ℕ) {q r : Page} → q ≡ onto p xs → r ≡ onto q ys → r ≡ onto p (xs ++ ys)
+follow p xs ys e f = f ∙ (ap (λ (s : Page). onto s ys) e ∙ onto-append p xs ys)

@@ -1,14 +1,22 @@
 -- Flags and numbers as text, in ASCII. Assumes nothing.
 use mathlib.Core.Bool.{Bool, cond}
 use mathlib.Core.List.{List, [], _∷_, _++_}
+use Prim.Native.Char.{code}
 use Prim.Native.Nat.{ℕ, zero, suc, _/_, _%_}
+use Prim.Native.String.{String}
+use Prim.Native.String.{[] as none, _∷_ as _then_}
 use lib.Dec.{ltb}
 use lib.IntN.{ℤ, pos, negsuc}
 use Rattle.io.specs.Digits.{glyph}
 
+-- a quoted text of ASCII, byte by byte
+abbrev pub ascii : String → List ℕ
+ascii none = []
+ascii (c then s) = code c ∷ ascii s
+
 -- `1` or `0`
 unfoldable pub flagOf : Bool → List ℕ
-flagOf f = cond f (49 ∷ []) (48 ∷ [])
+flagOf f = cond f (ascii "1") (ascii "0")
 
 -- two digits, small letters
 unfoldable pub hexOf : ℕ → List ℕ
@@ -26,4 +34,4 @@ decimalOf n = decimalIn 20 n
 -- with a leading `-` where it is below zero
 unfoldable pub signedOf : ℤ → List ℕ
 signedOf (pos n) = decimalOf n
-signedOf (negsuc n) = 45 ∷ decimalOf (suc n)
+signedOf (negsuc n) = ascii "-" ++ decimalOf (suc n)
