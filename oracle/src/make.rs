@@ -4,6 +4,7 @@
 mod cuts;
 mod drive;
 mod leaves;
+mod malformed;
 mod records;
 mod streams;
 pub mod tables;
@@ -41,6 +42,7 @@ pub fn run(args: &[&str], out: &mut impl Write) -> Result<()> {
         ["leaves", seed, count] => {
             leaves::run(number(Some(seed))?, number(Some(count))?, out).map(|()| true)?
         }
+        ["malformed"] => malformed::run(out).map(|()| true)?,
         _ => false,
     };
     match known {

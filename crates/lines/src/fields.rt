@@ -55,7 +55,7 @@ fn held(out: &mut [u8], at: usize, h: Held) -> usize
     }
 }
 
-pub fn utf8(out: &mut [u8], at: usize, m: Utf8) -> usize
+pub(crate) fn utf8(out: &mut [u8], at: usize, m: Utf8) -> usize
     ensures { λ r. ⌜ page (now (out .exit)) r ≡ onto (page (now (out .entry)) at) (utf8Text m) ⌝ }
 {
     let need = count(out, at, b" need=", wide(m.need));
@@ -63,7 +63,7 @@ pub fn utf8(out: &mut [u8], at: usize, m: Utf8) -> usize
     hex(out, lo, b" hi=", m.hi)
 }
 
-pub fn iso2022jp(out: &mut [u8], at: usize, m: Iso2022Jp) -> usize
+pub(crate) fn iso2022jp(out: &mut [u8], at: usize, m: Iso2022Jp) -> usize
     ensures { λ r. ⌜ page (now (out .exit)) r ≡ onto (page (now (out .entry)) at) (iso2022jpText m) ⌝ }
 {
     let state = m.state;
@@ -76,7 +76,7 @@ pub fn iso2022jp(out: &mut [u8], at: usize, m: Iso2022Jp) -> usize
     flag(out, e, b" output=", m.output)
 }
 
-pub fn euckr(out: &mut [u8], at: usize, m: EucKr) -> usize
+pub(crate) fn euckr(out: &mut [u8], at: usize, m: EucKr) -> usize
     ensures { λ r. ⌜ page (now (out .exit)) r ≡ onto (page (now (out .entry)) at) (euckrText m) ⌝ }
 {
     let prev = m.prev;
@@ -90,7 +90,7 @@ pub fn euckr(out: &mut [u8], at: usize, m: EucKr) -> usize
     held(out, f, held_score)
 }
 
-pub fn big5(out: &mut [u8], at: usize, m: Big5) -> usize
+pub(crate) fn big5(out: &mut [u8], at: usize, m: Big5) -> usize
     ensures { λ r. ⌜ page (now (out .exit)) r ≡ onto (page (now (out .entry)) at) (big5Text m) ⌝ }
 {
     let prev = m.prev;
@@ -117,14 +117,14 @@ fn words(out: &mut [u8], at: usize, current: u64, longest: u64) -> usize
     count(out, a, b" longest=", longest)
 }
 
-pub fn caseless(out: &mut [u8], at: usize, m: Caseless) -> usize
+pub(crate) fn caseless(out: &mut [u8], at: usize, m: Caseless) -> usize
     ensures { λ r. ⌜ page (now (out .exit)) r ≡ onto (page (now (out .entry)) at) (caselessText m) ⌝ }
 {
     let a = class(out, at, m.prev, m.prev_ascii);
     words(out, a, m.current_word_len, m.longest_word)
 }
 
-pub fn logical(out: &mut [u8], at: usize, m: Logical) -> usize
+pub(crate) fn logical(out: &mut [u8], at: usize, m: Logical) -> usize
     ensures { λ r. ⌜ page (now (out .exit)) r ≡ onto (page (now (out .entry)) at) (logicalText m) ⌝ }
 {
     let a = class(out, at, m.prev, m.prev_ascii);
@@ -132,7 +132,7 @@ pub fn logical(out: &mut [u8], at: usize, m: Logical) -> usize
     words(out, b, m.current_word_len, m.longest_word)
 }
 
-pub fn visual(out: &mut [u8], at: usize, m: Visual) -> usize
+pub(crate) fn visual(out: &mut [u8], at: usize, m: Visual) -> usize
     ensures { λ r. ⌜ page (now (out .exit)) r ≡ onto (page (now (out .entry)) at) (visualText m) ⌝ }
 {
     let a = class(out, at, m.prev, m.prev_ascii);
@@ -141,7 +141,7 @@ pub fn visual(out: &mut [u8], at: usize, m: Visual) -> usize
     words(out, c, m.current_word_len, m.longest_word)
 }
 
-pub fn arabic_french(out: &mut [u8], at: usize, m: ArabicFrench) -> usize
+pub(crate) fn arabic_french(out: &mut [u8], at: usize, m: ArabicFrench) -> usize
     ensures { λ r. ⌜ page (now (out .exit)) r ≡ onto (page (now (out .entry)) at) (arabicFrenchText m) ⌝ }
 {
     let case_state = m.case_state;

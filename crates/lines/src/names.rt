@@ -10,7 +10,7 @@ use scribe::page;
 use single::arabic_french::LatinCaseState;
 
 // The name of a place by its number; the last one's for any above.
-pub fn place(out: &mut [u8], at: usize, k: usize) -> usize
+pub(crate) fn place(out: &mut [u8], at: usize, k: usize) -> usize
     ensures { λ r. ⌜ page (now (out .exit)) r ≡ onto (page (now (out .entry)) at) (placeName k) ⌝ }
 {
     match k {
@@ -25,7 +25,7 @@ pub fn place(out: &mut [u8], at: usize, k: usize) -> usize
     }
 }
 
-pub fn decoder_state(out: &mut [u8], at: usize, s: DecoderState) -> usize
+pub(crate) fn decoder_state(out: &mut [u8], at: usize, s: DecoderState) -> usize
     ensures { λ r. ⌜ page (now (out .exit)) r ≡ onto (page (now (out .entry)) at) (stateName s) ⌝ }
 {
     match s {
@@ -39,7 +39,7 @@ pub fn decoder_state(out: &mut [u8], at: usize, s: DecoderState) -> usize
     }
 }
 
-pub fn output_state(out: &mut [u8], at: usize, s: OutputState) -> usize
+pub(crate) fn output_state(out: &mut [u8], at: usize, s: OutputState) -> usize
     ensures { λ r. ⌜ page (now (out .exit)) r ≡ onto (page (now (out .entry)) at) (outName s) ⌝ }
 {
     match s {
@@ -50,7 +50,7 @@ pub fn output_state(out: &mut [u8], at: usize, s: OutputState) -> usize
     }
 }
 
-pub fn korean(out: &mut [u8], at: usize, kind: LatinKorean) -> usize
+pub(crate) fn korean(out: &mut [u8], at: usize, kind: LatinKorean) -> usize
     ensures { λ r. ⌜ page (now (out .exit)) r ≡ onto (page (now (out .entry)) at) (koreanName kind) ⌝ }
 {
     match kind {
@@ -61,7 +61,7 @@ pub fn korean(out: &mut [u8], at: usize, kind: LatinKorean) -> usize
     }
 }
 
-pub fn cj(out: &mut [u8], at: usize, kind: LatinCj) -> usize
+pub(crate) fn cj(out: &mut [u8], at: usize, kind: LatinCj) -> usize
     ensures { λ r. ⌜ page (now (out .exit)) r ≡ onto (page (now (out .entry)) at) (cjName kind) ⌝ }
 {
     match kind {
@@ -71,7 +71,7 @@ pub fn cj(out: &mut [u8], at: usize, kind: LatinCj) -> usize
     }
 }
 
-pub fn case(out: &mut [u8], at: usize, case: LatinCaseState) -> usize
+pub(crate) fn case(out: &mut [u8], at: usize, case: LatinCaseState) -> usize
     ensures { λ r. ⌜ page (now (out .exit)) r ≡ onto (page (now (out .entry)) at) (caseName case) ⌝ }
 {
     match case {

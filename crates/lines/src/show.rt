@@ -48,7 +48,7 @@ fn saved(out: &mut [u8], at: usize, context: Context) -> usize
     page::hex(out, a, context.second)
 }
 
-pub fn front(out: &mut [u8], at: usize, front: Front) -> usize
+fn front(out: &mut [u8], at: usize, front: Front) -> usize
     ensures { λ r. ⌜ page (now (out .exit)) r ≡ onto (page (now (out .entry)) at) (frontText front) ⌝ }
 {
     let context = front.context;
@@ -90,7 +90,7 @@ fn scored(out: &mut [u8], at: usize, machine: Machine, score: Score) -> usize
     end_line(out, c)
 }
 
-pub fn place(out: &mut [u8], at: usize, place: Place) -> usize
+fn place(out: &mut [u8], at: usize, place: Place) -> usize
     ensures { λ r. ⌜ page (now (out .exit)) r ≡ onto (page (now (out .entry)) at) (placeText place) ⌝ }
 {
     let machine = place.machine;
@@ -121,7 +121,7 @@ fn leader_name(out: &mut [u8], at: usize, leader: Leader) -> usize
     }
 }
 
-pub fn lead(out: &mut [u8], at: usize, leader: Leader) -> usize
+fn lead(out: &mut [u8], at: usize, leader: Leader) -> usize
     ensures { λ r. ⌜ page (now (out .exit)) r ≡ onto (page (now (out .entry)) at) (ascii "leader " ++ leadText leader ++ newline) ⌝ }
 {
     let a = page::word(out, at, b"leader ");

@@ -1,5 +1,5 @@
 // A descriptor's bytes through a window: they are read when they are wanted, and go when they are passed.
-ghost use mathlib.Core.Bool.{true};
+ghost use mathlib.Core.Bool.{false};
 ghost use mathlib.Core.Path.{_≡_};
 ghost use Prim.Native.Nat.{_+_, _-_, _≤_};
 ghost use lib.ListN.{length};
@@ -40,7 +40,7 @@ impl Span {
     }
 
     fn cut(self) -> Span
-        ensures { λ r. ⌜ ((r .at ≡ self .at) × (r .end ≡ self .end)) × (r .whole ≡ true → ⊥) ⌝ }
+        ensures { λ r. ⌜ ((r .at ≡ self .at) × (r .end ≡ self .end)) × (r .whole ≡ false) ⌝ }
     {
         Span {
             from: self.from,

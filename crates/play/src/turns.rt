@@ -21,21 +21,21 @@ enum Next {
     Bad,
 }
 
-struct Turn {
+struct Stand {
     state: State,
     span: Span,
     sink: Sink,
     next: Next,
 }
 
-impl Turn {
+impl Stand {
     // All but the place in the input stays as it was.
-    fn at(self, span: Span, next: Next) -> Turn
+    fn at(self, span: Span, next: Next) -> Stand
         ensures { λ r. ⌜ r .span ≡ span ⌝ }
     {
         let state = self.state;
         let sink = self.sink;
-        Turn {
+        Stand {
             state,
             span,
             sink,
@@ -43,13 +43,13 @@ impl Turn {
         }
     }
 
-    fn started(self, bits: u8) -> Turn
+    fn started(self, bits: u8) -> Stand
         requires { ⌜ self .span .at + 2 ≤ self .span .end ⌝ }
         ensures { λ r. ⌜ (r .span .at ≡ self .span .at + 2) × (r .span .end ≡ self .span .end) ⌝ }
     {
         let span = self.span;
         let sink = self.sink;
-        Turn {
+        Stand {
             state: state::start(bits),
             span: span.past(2),
             sink,
@@ -57,14 +57,14 @@ impl Turn {
         }
     }
 
-    fn shown(self) -> Turn
+    fn shown(self) -> Stand
         requires { ⌜ self .span .at + 1 ≤ self .span .end ⌝ }
         ensures { λ r. ⌜ (r .span .at ≡ self .span .at + 1) × (r .span .end ≡ self .span .end) ⌝ }
     {
         let state = self.state;
         let span = self.span;
         let sink = self.sink;
-        Turn {
+        Stand {
             state,
             span: span.past(1),
             sink: sink.with_state(state),
@@ -73,7 +73,7 @@ impl Turn {
     }
 
     // So many bytes are wanted. The input may end where no command has begun.
-    fn filled(self, window: &mut [u8], want: usize) -> Turn
+    fn filled(self, window: &mut [u8], want: usize) -> Stand
         requires { ⌜ Within (length (now window)) (self .span) ⌝ }
         ensures { λ r. ⌜ Within (length (now (window .entry))) (r .span) ⌝ }
     {
@@ -92,7 +92,7 @@ impl Turn {
 // A chunk of so many bytes, which stands in the window.
 fn fed(
     window: &[u8],
-    t: Turn,
+    t: Stand,
     last: bool,
     count: usize,
     classes4: &[u8],
@@ -112,7 +112,7 @@ fn fed(
     jis: &[u32],
     extras: &[i16],
     weights: &[i32],
-) -> Turn
+) -> Stand
     requires { ⌜ Within (length (now window)) (t .span) ⌝ }
     requires { ⌜ t .span .at + (6 + count) ≤ t .span .end ⌝ }
     ensures { λ r. ⌜ Within (length (now (window .entry))) (r .span) ⌝ }
@@ -145,7 +145,7 @@ fn fed(
     );
     let after = fed.state;
     let reply = fed.reply;
-    Turn {
+    Stand {
         state: after,
         span: span.past(command::HEAD + count),
         sink: sink.with_reply(reply),
@@ -156,7 +156,7 @@ fn fed(
 // One command, or the bytes that it still wants.
 fn turn(
     window: &mut [u8],
-    t: Turn,
+    t: Stand,
     classes4: &[u8],
     marks4: &[u8],
     pairs4: &[i16],
@@ -174,7 +174,7 @@ fn turn(
     jis: &[u32],
     extras: &[i16],
     weights: &[i32],
-) -> Turn
+) -> Stand
     requires { ⌜ Within (length (now window)) (t .span) ⌝ }
     ensures { λ r. ⌜ Within (length (now (window .entry))) (r .span) ⌝ }
 {
@@ -217,7 +217,7 @@ fn turn(
 // The commands until the input ends, is malformed, or lends new tables.
 fn turns(
     window: &mut [u8],
-    from: Turn,
+    from: Stand,
     classes4: &[u8],
     marks4: &[u8],
     pairs4: &[i16],
@@ -235,7 +235,7 @@ fn turns(
     jis: &[u32],
     extras: &[i16],
     weights: &[i32],
-) -> Turn
+) -> Stand
     requires { ⌜ Within (length (now window)) (from .span) ⌝ }
     ensures { λ r. ⌜ Within (length (now (window .entry))) (r .span) ⌝ }
 {
@@ -327,7 +327,7 @@ fn lend(
 // Lent data, then commands.
 fn round(
     window: &mut [u8],
-    from: Turn,
+    from: Stand,
     classes4: &mut [u8],
     marks4: &mut [u8],
     pairs4: &mut [i16],
@@ -345,7 +345,7 @@ fn round(
     jis: &mut [u32],
     extras: &mut [i16],
     weights: &mut [i32],
-) -> Turn
+) -> Stand
     requires { ⌜ Within (length (now window)) (from .span) ⌝ }
     ensures { λ r. ⌜ Within (length (now (window .entry))) (r .span) ⌝ }
 {
@@ -397,18 +397,18 @@ fn round(
     )
 }
 
-fn begun(from: i32, aloud: bool) -> Turn
+fn begun(from: i32, aloud: bool) -> Stand
     ensures { λ r. ⌜ Within 0 (r .span) ⌝ }
 {
     if aloud {
-        return Turn {
+        return Stand {
             state: state::start(0xFF),
             span: Span::empty(from),
             sink: Sink::Out,
             next: Next::Tables,
         };
     }
-    Turn {
+    Stand {
         state: state::start(0xFF),
         span: Span::empty(from),
         sink: Sink::Digest(Digest::fresh()),
@@ -416,7 +416,7 @@ fn begun(from: i32, aloud: bool) -> Turn
     }
 }
 
-fn ended(t: Turn) {
+fn ended(t: Stand) {
     let next = t.next;
     let sink = t.sink;
     if let Next::Bad = next {
