@@ -1,7 +1,8 @@
 -- Where the bytes at hand stand in a window of n bytes. Assumes nothing.
-use mathlib.Core.Bool.{true}
+use mathlib.Core.Bool.{Bool, true, false}
 use mathlib.Core.Path.{_≡_}
 use Prim.Native.Nat.{ℕ, _+_, _≤_}
+use native.Mathlib.Omega.{arith}
 use Rattle.play.specs.declared.input.Span.{Span}
 
 pub record Within (n : ℕ) (s : Span) : Type 0 where
@@ -12,3 +13,6 @@ pub record Within (n : ℕ) (s : Span) : Type 0 where
 pub record Filled (n want : ℕ) (s : Span) : Type 0 where
   pub within : Within n s
   pub there : s .whole ≡ true → s .at + want ≤ s .end
+
+pub unlike : {P : Type 0} {b : Bool} → b ≡ true → b ≡ false → P
+unlike p q = absurd (let z : _≡_ {A = ℕ} 0 1 = cc in omega arith)

@@ -16,7 +16,7 @@ pub(crate) struct Span {
 
 impl Span {
     pub(crate) fn empty(from: i32) -> Span
-        ensures { λ r. ⌜ Within 0 r ⌝ }
+        ensures { λ r. ⌜ Within 131072 r ⌝ }
     {
         Span {
             from,

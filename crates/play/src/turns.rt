@@ -276,9 +276,9 @@ fn turns(
 fn single(
     window: &mut [u8],
     span: Span,
-    classes: &mut [u8],
-    marks: &mut [u8],
-    pairs: &mut [i16],
+    classes: &mut [u8; 256],
+    marks: &mut [u8; 128],
+    pairs: &mut [i16; 16384],
 ) -> Span
     requires { ⌜ Within (length (now window)) span ⌝ }
     ensures { λ r. ⌜ Within (length (now (window .entry))) r ⌝ }
@@ -288,27 +288,22 @@ fn single(
     input::halves(window, b, pairs)
 }
 
-// The lent data, table after table.
-fn lend(
+// The tables of the single-byte places, one place after the other.
+fn lend_singles(
     window: &mut [u8],
     span: Span,
-    classes4: &mut [u8],
-    marks4: &mut [u8],
-    pairs4: &mut [i16],
-    classes5: &mut [u8],
-    marks5: &mut [u8],
-    pairs5: &mut [i16],
-    classes6: &mut [u8],
-    marks6: &mut [u8],
-    pairs6: &mut [i16],
-    classes7: &mut [u8],
-    marks7: &mut [u8],
-    pairs7: &mut [i16],
-    big5: &mut [u32],
-    euckr: &mut [u32],
-    jis: &mut [u32],
-    extras: &mut [i16],
-    weights: &mut [i32],
+    classes4: &mut [u8; 256],
+    marks4: &mut [u8; 128],
+    pairs4: &mut [i16; 16384],
+    classes5: &mut [u8; 256],
+    marks5: &mut [u8; 128],
+    pairs5: &mut [i16; 16384],
+    classes6: &mut [u8; 256],
+    marks6: &mut [u8; 128],
+    pairs6: &mut [i16; 16384],
+    classes7: &mut [u8; 256],
+    marks7: &mut [u8; 128],
+    pairs7: &mut [i16; 16384],
 ) -> Span
     requires { ⌜ Within (length (now window)) span ⌝ }
     ensures { λ r. ⌜ Within (length (now (window .entry))) r ⌝ }
@@ -316,41 +311,56 @@ fn lend(
     let a = single(window, span, classes4, marks4, pairs4);
     let b = single(window, a, classes5, marks5, pairs5);
     let c = single(window, b, classes6, marks6, pairs6);
-    let d = single(window, c, classes7, marks7, pairs7);
-    let e = input::words(window, d, big5);
-    let f = input::words(window, e, euckr);
-    let g = input::words(window, f, jis);
-    let h = input::halves(window, g, extras);
-    input::signed_words(window, h, weights)
+    single(window, c, classes7, marks7, pairs7)
+}
+
+// The tables after them.
+fn lend_rest(
+    window: &mut [u8],
+    span: Span,
+    big5: &mut [u32; 19782],
+    euckr: &mut [u32; 23940],
+    jis: &mut [u32; 8836],
+    extras: &mut [i16; 11172],
+    weights: &mut [i32; 17],
+) -> Span
+    requires { ⌜ Within (length (now window)) span ⌝ }
+    ensures { λ r. ⌜ Within (length (now (window .entry))) r ⌝ }
+{
+    let a = input::words(window, span, big5);
+    let b = input::words(window, a, euckr);
+    let c = input::words(window, b, jis);
+    let d = input::halves(window, c, extras);
+    input::signed_words(window, d, weights)
 }
 
 // Lent data, then commands.
 fn round(
-    window: &mut [u8],
+    window: &mut [u8; 131072],
     from: Stand,
-    classes4: &mut [u8],
-    marks4: &mut [u8],
-    pairs4: &mut [i16],
-    classes5: &mut [u8],
-    marks5: &mut [u8],
-    pairs5: &mut [i16],
-    classes6: &mut [u8],
-    marks6: &mut [u8],
-    pairs6: &mut [i16],
-    classes7: &mut [u8],
-    marks7: &mut [u8],
-    pairs7: &mut [i16],
-    big5: &mut [u32],
-    euckr: &mut [u32],
-    jis: &mut [u32],
-    extras: &mut [i16],
-    weights: &mut [i32],
+    classes4: &mut [u8; 256],
+    marks4: &mut [u8; 128],
+    pairs4: &mut [i16; 16384],
+    classes5: &mut [u8; 256],
+    marks5: &mut [u8; 128],
+    pairs5: &mut [i16; 16384],
+    classes6: &mut [u8; 256],
+    marks6: &mut [u8; 128],
+    pairs6: &mut [i16; 16384],
+    classes7: &mut [u8; 256],
+    marks7: &mut [u8; 128],
+    pairs7: &mut [i16; 16384],
+    big5: &mut [u32; 19782],
+    euckr: &mut [u32; 23940],
+    jis: &mut [u32; 8836],
+    extras: &mut [i16; 11172],
+    weights: &mut [i32; 17],
 ) -> Stand
     requires { ⌜ Within (length (now window)) (from .span) ⌝ }
-    ensures { λ r. ⌜ Within (length (now (window .entry))) (r .span) ⌝ }
+    ensures { λ r. ⌜ Within (length (now (window .entry))) (r .span) × (length (now (window .exit)) ≡ length (now (window .entry))) ⌝ }
 {
     let first = from.span;
-    let span = lend(
+    let second = lend_singles(
         window,
         first,
         classes4,
@@ -365,12 +375,8 @@ fn round(
         classes7,
         marks7,
         pairs7,
-        big5,
-        euckr,
-        jis,
-        extras,
-        weights,
     );
+    let span = lend_rest(window, second, big5, euckr, jis, extras, weights);
     if !span.whole {
         return from.at(span, Next::Bad);
     }
@@ -398,7 +404,7 @@ fn round(
 }
 
 fn begun(from: i32, aloud: bool) -> Stand
-    ensures { λ r. ⌜ Within 0 (r .span) ⌝ }
+    ensures { λ r. ⌜ Within 131072 (r .span) ⌝ }
 {
     if aloud {
         return Stand {

@@ -1,47 +1,37 @@
+-- `fill` meets its contract. Assumes nothing.
+use native.Mathlib.Omega.{arith}
+use borrow.Author.Tests.{leb-true, not-true}
+use Rattle.play.specs.Within.{unlike}
 use borrow.Author.Needs.{needs}
 use Rattle.play.proofs.input.fill.Statement.{statement}
 use Rattle.play.proofs.input.fill.Tie as tie
-use Rattle.play.proofs.input.fill.Reads as reads
-use Rattle.play.proofs.input.fill.Lts as lts
-use Rattle.play.proofs.input.Span.cut.Reads as cut-reads
-use Rattle.play.proofs.input.read_on.Reads as read-on-reads
-use Rattle.play.proofs.input.slide.Reads as slide-reads
 
--- src/input.rt:93:9
 cut-requires : tie.Need-cut-requires
 cut-requires c κs = search needs
 
--- src/input.rt:93:9
 returns : tie.Need-returns
-returns c = ?
+returns c = record { within = record { begun = search needs; ended = search needs }; there = λ h. unlike h (c .cut .ensures .1) }
 
--- src/input.rt:96:9
 returns-2 : tie.Need-returns-2
-returns-2 c = ?
+returns-2 c = record { within = search needs; there = λ h. unlike h (not-true _ (c .if2 .taken)) }
 
--- src/input.rt:98:16
 sub-if3 : tie.Need-sub-if3
 sub-if3 c = search needs
 
--- src/input.rt:99:9
 returns-3 : tie.Need-returns-3
 returns-3 c = search needs
 
--- src/input.rt:101:9
 slide-requires : tie.Need-slide-requires
 slide-requires c κs = search needs
 
--- src/input.rt:102:9
 read-on-requires : tie.Need-read-on-requires
 read-on-requires c κs = search needs
 
--- src/input.rt:85:1
 same-length : tie.Need-same-length
 same-length c = search needs
 
--- src/input.rt:85:1
 returns-4 : tie.Need-returns-4
-returns-4 c = ?
+returns-4 c = record { within = record { begun = omega arith; ended = search needs }; there = λ h. omega (arith, leb-true (c .before .before .before .before .before .before .before .before .before .before .before .before .before .before .args .want) (c .before .before .read-on .result) h) }
 
 pub fill-spec : {M : Type 1} → statement M
 fill-spec =

@@ -1,57 +1,42 @@
+-- `octets` meets its contract. Assumes nothing.
+use native.Mathlib.Omega.{arith}
 use borrow.Author.Needs.{needs}
 use Rattle.play.proofs.input.octets.Statement.{statement}
 use Rattle.play.proofs.input.octets.Tie as tie
-use Rattle.play.proofs.input.octets.Reads as reads
-use Rattle.play.proofs.input.octets.Lts as lts
-use Rattle.play.proofs.input.Span.past.Reads as past-reads
-use Rattle.play.proofs.input.fill.Reads as fill-reads
-use Rattle.scribe.proofs.tables.octets.Reads as octets-reads
 
--- src/input.rt:117:9
 fill-requires : tie.Need-fill-requires
 fill-requires c κs = search needs
 
--- src/input.rt:120:36
 add-octets : tie.Need-add-octets
 add-octets c = search needs
 
--- src/input.rt:120:24
 sub-octets : tie.Need-sub-octets
 sub-octets c = search needs
 
--- src/input.rt:120:24
 part-octets-start : tie.Need-part-octets-start
 part-octets-start c = search needs
 
--- src/input.rt:120:24
 part-octets-end : tie.Need-part-octets-end
-part-octets-end c = ?
+part-octets-end c = omega (arith, c .before .before .before .before .fill .ensures .there (c .before .if1 .taken), c .before .before .before .before .fill .ensures .within .ended, c .before .before .before .before .fill .kept .0)
 
--- src/input.rt:120:9
 octets-requires : tie.Need-octets-requires
 octets-requires c κs = search needs
 
--- src/input.rt:121:9
 past-requires : tie.Need-past-requires
-past-requires c κs = ?
+past-requires c κs = c .before .before .before .before .before .before .before .before .before .fill .ensures .there (c .before .before .before .before .before .before .if1 .taken)
 
--- src/input.rt:121:9
 same-length : tie.Need-same-length
 same-length c = search needs
 
--- src/input.rt:121:9
 same-length-2 : tie.Need-same-length-2
 same-length-2 c = search needs
 
--- src/input.rt:121:9
 returns : tie.Need-returns
-returns c = ?
+returns c = record { begun = omega (arith, c .before .before .before .before .before .before .before .before .before .before .fill .ensures .there (c .before .before .before .before .before .before .before .if1 .taken), c .past .ensures .0, c .past .ensures .1); ended = omega (arith, c .before .before .before .before .before .before .before .before .before .before .fill .ensures .within .ended, c .past .ensures .1) }
 
--- src/input.rt:112:1
 same-length-3 : tie.Need-same-length-3
 same-length-3 c = search needs
 
--- src/input.rt:112:1
 returns-2 : tie.Need-returns-2
 returns-2 c = search needs
 

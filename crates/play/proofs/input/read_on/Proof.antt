@@ -1,8 +1,9 @@
 -- `read_on` is safe and ends. Assumes nothing.
-use mathlib.Core.Path.{_≡_}
+use mathlib.Core.Path.{_≡_, _∙_}
 use Prim.Native.Nat.{_≤_, _-_}
 use native.Mathlib.Omega.{arith}
-use lib.ListN.{length}
+use lib.ListN.{length, length-take, length-drop}
+use borrow.Rule.Slice.PartMut.{putMid, same-len-mid}
 use borrow.Author.Needs.{needs}
 use Rattle.play.proofs.input.read_on.Statement.{statement}
 use Rattle.play.proofs.input.read_on.Tie as tie
@@ -12,6 +13,14 @@ Inv-loop from window₀ filled want end₀ window end = (end ≤ length window�
 
 abbrev μ-loop : tie.MeasureT-loop
 μ-loop from window₀ filled want end₀ window end = length window₀ - end
+
+-- what was read stands past the end, and the window keeps its length
+module _ (c : tie.Else1 Inv-loop μ-loop) where
+  same : length (putMid (c .before .before .before .before .before .before .before .before .before .loop .end) (length (c .before .before .before .before .before .before .before .before .before .loop .window) - c .before .before .before .before .before .before .before .before .before .loop .end) (c .before .before .before .before .before .before .before .before .before .loop .window) (c .before .before .before .before .before .before .read .last .1 .0)) ≡ length (c .before .before .before .before .before .before .before .before .before .loop .window)
+  same = same-len-mid (c .before .before .before .before .before .before .before .before .before .loop .end) (length (c .before .before .before .before .before .before .before .before .before .loop .window) - c .before .before .before .before .before .before .before .before .before .loop .end) (c .before .before .before .before .before .before .before .before .before .loop .window) (c .before .before .before .before .before .before .read .last .1 .0) (c .before .before .before .before .before .before .read .kept .1 .0)
+
+  more : c .before .count .result ≤ length (c .before .before .before .before .before .before .before .before .before .loop .window) - c .before .before .before .before .before .before .before .before .before .loop .end
+  more = omega (arith, simp (length-take, length-drop, same) at (c .before .count .ensures .0 .0))
 
 loop-holds : tie.Need-loop-holds Inv-loop μ-loop
 loop-holds c = search needs
@@ -50,10 +59,10 @@ add-end : tie.Need-add-end Inv-loop μ-loop
 add-end c = search needs
 
 loop-less : tie.Need-loop-less Inv-loop μ-loop
-loop-less c = ?
+loop-less c = omega (arith, more c, c .if1 .left, c .before .before .before .before .before .before .before .before .loop-test .taken)
 
 loop-again : tie.Need-loop-again Inv-loop μ-loop
-loop-again c = ?
+loop-again c = (omega (arith, more c, c .before .before .before .before .before .before .before .before .before .loop .inv .1), same c ∙ c .before .before .before .before .before .before .before .before .before .loop .inv .1)
 
 same-length-2 : tie.Need-same-length-2 Inv-loop μ-loop
 same-length-2 c = search needs

@@ -1,55 +1,50 @@
+-- `turns` meets its contract. Assumes nothing.
+use mathlib.Core.Path.{_≡_, refl, subst, sym, _∙_}
+use Prim.Native.Nat.{ℕ, _≤_, _-_}
+use native.Mathlib.Omega.{arith}
+use lib.ListN.{length}
+use borrow.Author.Needs.{needs}
+use Rattle.play.specs.Within.{Within}
 use Rattle.play.proofs.turns.turns.Statement.{statement}
 use Rattle.play.proofs.turns.turns.Tie as tie
-use Rattle.play.proofs.turns.turns.Reads as reads
-use Rattle.play.proofs.turns.turns.Lts as lts
-use Rattle.play.proofs.turns.turn.Reads as turn-reads
 
 abbrev Inv-loop : tie.InvT-loop
 Inv-loop window₀ classes4 marks4 pairs4 classes5 marks5 pairs5 classes6 marks6 pairs6 classes7 marks7 pairs7 big5 euckr jis extras weights t₀ count₀ window t count =
-    ?
+    (count ≤ 4611686018427387904) × ((length window ≡ length window₀) × Within (length window₀) (t .span))
 
 abbrev μ-loop : tie.MeasureT-loop
 μ-loop window₀ classes4 marks4 pairs4 classes5 marks5 pairs5 classes6 marks6 pairs6 classes7 marks7 pairs7 big5 euckr jis extras weights t₀ count₀ window t count =
-    ?
+    4611686018427387904 - count
 
--- src/turns.rt:244:5
 loop-holds : tie.Need-loop-holds Inv-loop μ-loop
-loop-holds c = ?
+loop-holds c = (omega arith, (refl, search needs))
 
--- src/turns.rt:245:9
 turn-requires : tie.Need-turn-requires Inv-loop μ-loop
-turn-requires c κs = ?
+turn-requires c κs = subst (λ (n : ℕ). Within n (c .before .before .loop .t .span)) (sym (c .before .before .loop .inv .1 .0)) (c .before .before .loop .inv .1 .1)
 
 enum-told : tie.Need-enum-told Inv-loop μ-loop
-enum-told c = ?
+enum-told c = search needs
 
--- src/turns.rt:268:13
 same-length : tie.Need-same-length Inv-loop μ-loop
-same-length c = ?
+same-length c = search needs
 
--- src/turns.rt:268:13
 returns : tie.Need-returns Inv-loop μ-loop
-returns c = ?
+returns c = subst (λ (n : ℕ). Within n (c .before .before .before .turn .result .span)) (c .before .before .before .before .before .before .loop .inv .1 .0) (c .before .before .before .turn .ensures)
 
--- src/turns.rt:270:9
 add-count : tie.Need-add-count Inv-loop μ-loop
-add-count c = ?
+add-count c = search needs
 
--- src/turns.rt:244:5
 loop-less : tie.Need-loop-less Inv-loop μ-loop
-loop-less c = ?
+loop-less c = search needs
 
--- src/turns.rt:244:5
 loop-again : tie.Need-loop-again Inv-loop μ-loop
-loop-again c = ?
+loop-again c = (omega arith, (c .before .before .before .before .turn .kept .0 ∙ c .before .before .before .before .before .before .before .loop .inv .1 .0, subst (λ (n : ℕ). Within n (c .before .before .before .before .turn .result .span)) (c .before .before .before .before .before .before .before .loop .inv .1 .0) (c .before .before .before .before .turn .ensures)))
 
--- src/turns.rt:218:1
 same-length-2 : tie.Need-same-length-2 Inv-loop μ-loop
-same-length-2 c = ?
+same-length-2 c = search needs
 
--- src/turns.rt:218:1
 returns-2 : tie.Need-returns-2 Inv-loop μ-loop
-returns-2 c = ?
+returns-2 c = search needs
 
 pub turns-spec : {M : Type 1} → statement M
 turns-spec =

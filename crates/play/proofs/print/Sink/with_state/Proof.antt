@@ -1,32 +1,27 @@
+-- `with_state` is safe: what is written ends within the text. Assumes nothing.
+use mathlib.Core.Path.{sym}
+use native.Mathlib.Omega.{arith}
+use lib.Seq.{length-take-le}
+use Rattle.scribe.specs.PageLaws.{reach}
 use borrow.Author.Needs.{needs}
 use Rattle.play.proofs.print.Sink.with_state.Statement.{statement}
 use Rattle.play.proofs.print.Sink.with_state.Tie as tie
-use Rattle.play.proofs.print.Sink.with_state.Reads as reads
-use Rattle.play.proofs.print.Sink.with_state.Lts as lts
-use Rattle.lines.proofs.show.state.Reads as state-reads
-use Rattle.play.proofs.print.Sink.with.Reads as with-reads
 
--- src/print.rt:32:31
 slice-aggregate-state : tie.Need-slice-aggregate-state
 slice-aggregate-state c = search needs
 
--- src/print.rt:32:13
 state-requires : tie.Need-state-requires
 state-requires c κs = search needs
 
--- src/print.rt:33:19
 array-share-prefix-text : tie.Need-array-share-prefix-text
-array-share-prefix-text c = ?
+array-share-prefix-text c = reach _ _ 0 _ _ (omega arith) (c .before .state .ensures)
 
--- src/print.rt:33:19
 slice-aggregate-with : tie.Need-slice-aggregate-with
-slice-aggregate-with c = ?
+slice-aggregate-with c = sym (length-take-le _ _ (reach _ _ 0 _ _ (omega arith) (c .before .before .state .ensures)))
 
--- src/print.rt:33:9
 with-requires : tie.Need-with-requires
 with-requires c κs = search needs
 
--- src/print.rt:30:5
 returns : tie.Need-returns
 returns c = search needs
 
