@@ -4,7 +4,7 @@ use mathlib.Core.List.{List}
 use Prim.Native.Nat.{ℕ}
 use lib.IntN.{ℤ}
 use Rattle.laws.specs.Determined.{Determined, same}
-use Rattle.scribe.specs.Page.{Page, page}
+use Rattle.scribe.specs.PageLaws.{alike}
 use Rattle.scribe.proofs.page.byte.Kinds as byte-kinds
 use Rattle.scribe.proofs.page.byte.Reads as byte-reads
 use Rattle.scribe.proofs.page.word.Kinds as word-kinds
@@ -27,10 +27,6 @@ use Rattle.scribe.proofs.tables.signed_words.Kinds as signed-words-kind
 use Rattle.scribe.proofs.tables.signed_words.Reads as signed-words-reads
 use Rattle.scribe.proofs.command.read.Kinds as read-kinds
 use Rattle.scribe.proofs.command.read.Reads as read-reads
-
--- two pages that equal a third are written alike
-alike : {e : Page} {xs ys : List ℕ} {z z′ : ℕ} → page xs z ≡ e → page ys z′ ≡ e → (z ≡ z′) × (xs ≡ ys)
-alike p q = (cc, cc)
 
 pub byte : Determined 1 byte-kinds.ps byte-kinds.r byte-reads.Asked byte-reads.Learnt
 byte = record { total = λ κs a. tt; one = λ κs a z z′ w w′ p q. let s = alike p q in (s .0, ap (λ (l : List ℕ). (l, (tt, (tt, tt)))) (s .1)) }

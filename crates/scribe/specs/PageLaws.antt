@@ -40,3 +40,7 @@ reach [] xs at ys r h e =
     let q : ys ≡ xs = cc in
     rw (p, q) h
 reach (t ∷ ts) xs at ys r h e = reach ts (set xs at t) (cond (ltb at (length xs)) (at + 1) (length xs)) ys r (rw length-set (next at (length xs))) e
+
+-- two pages that equal a third are written alike
+pub alike : {e : Page} {xs ys : List ℕ} {z z′ : ℕ} → page xs z ≡ e → page ys z′ ≡ e → (z ≡ z′) × (xs ≡ ys)
+alike p q = (cc, cc)
