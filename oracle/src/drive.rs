@@ -25,6 +25,17 @@ pub fn run(input: impl Read, out: &mut impl Write, form: Form) -> Result<()> {
             b'M' => case(&mut input).ok_or_else(|| bad(number))?,
             b'R' => whole(&mut input).ok_or_else(|| bad(number))?,
             b'A' => all(&mut input).ok_or_else(|| bad(number))?,
+            b'L' => {
+                let (place, records) = whole(&mut input).ok_or_else(|| bad(number))?;
+                lined(place).ok_or_else(|| bad(number))?;
+                write(out, form.line(), place, &records)?;
+                continue;
+            }
+            b'N' => {
+                let name = name(&mut input).ok_or_else(|| bad(number))?;
+                form.named(out, &name)?;
+                continue;
+            }
             b'T' => {
                 input.tables().ok_or_else(|| bad(number))?;
                 continue;
@@ -34,6 +45,34 @@ pub fn run(input: impl Read, out: &mut impl Write, form: Form) -> Result<()> {
         write(out, &form, place, &records)?;
     }
     Ok(())
+}
+
+impl Form {
+    /// How a line is written: in words unless all is binary.
+    fn line(&self) -> &Form {
+        match self {
+            Form::Binary => self,
+            _ => &Form::Text,
+        }
+    }
+
+    /// A name, which a line follows.
+    fn named(&self, out: &mut impl Write, name: &[u8]) -> Result<()> {
+        match self {
+            Form::Binary => Ok(()),
+            _ => out.write_all(&[name, b": "].concat()),
+        }
+    }
+}
+
+/// Only EUC-KR and Big5 have lines.
+fn lined(place: u8) -> Option<()> {
+    matches!(place, 2 | 3).then_some(())
+}
+
+fn name<R: Read>(input: &mut Input<R>) -> Option<Vec<u8>> {
+    let length = input.byte()?;
+    input.bytes(usize::from(length))
 }
 
 fn write(out: &mut impl Write, form: &Form, place: u8, records: &[Record]) -> Result<()> {

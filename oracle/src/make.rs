@@ -5,6 +5,7 @@ mod cuts;
 mod drive;
 mod leaves;
 mod malformed;
+mod named;
 mod records;
 mod streams;
 pub mod tables;
@@ -43,6 +44,7 @@ pub fn run(args: &[&str], out: &mut impl Write) -> Result<()> {
             leaves::run(number(Some(seed))?, number(Some(count))?, out).map(|()| true)?
         }
         ["malformed"] => malformed::run(out).map(|()| true)?,
+        ["named"] => named::run(out).map(|()| true)?,
         _ => false,
     };
     match known {

@@ -16,7 +16,7 @@ use Rattle.pairs.specs.Ranges.{below}
 use Rattle.pairs.specs.Sequences.{first-ascii}
 use Rattle.pairs.specs.declared.Event.the-variants.{Point}
 use Rattle.pairs.specs.declared.Held.the-variants.{Nothing}
-use Rattle.big5.specs.Standard.{decodeOf}
+use Rattle.big5_decoder.specs.Standard.{decodeOf}
 use Rattle.big5.specs.Scoring.{isHanzi, isDistinct, isCj, besideHanzi, letterOf, scored, unitOf, pointOf, freshOf, Lent, stepOf}
 use Rattle.big5.specs.Scoring as scoring
 use Rattle.big5.specs.Ways.{step-on}

@@ -10,7 +10,7 @@ use Rattle.laws.specs.Run.{Out, none, live, run}
 use Rattle.pairs.specs.Pairs.{isLeadOrNone, releasedOf, smallHeldB}
 use Rattle.laws.specs.Limit.{limit}
 use Rattle.weights.specs.Weights.{weightCount, term}
-use Rattle.big5.specs.Standard.{entries}
+use Rattle.big5_decoder.specs.Standard.{entries}
 use Rattle.big5.specs.Scoring.{lent, scaleOf, stepOf}
 use Rattle.big5.specs.declared.Big5.{Big5}
 use Rattle.big5.specs.declared.Scale.{Scale}
@@ -51,6 +51,12 @@ abbrev pub Bounded : ℕ → Ran → Type 0
 Bounded c (Live m s) = natAbs s ≤ c
 Bounded c Dropped = Unit {0}
 Bounded c Unfit = Unit {0}
+
+-- a live answer came of weights of 32 bits
+abbrev pub Weighed : List ℤ → Ran → Type 0
+Weighed weights (Live m s) = Small (scaleOf weights)
+Weighed weights Dropped = Unit {0}
+Weighed weights Unfit = Unit {0}
 
 -- ---- a run and a close
 -- the record is one that Big5 can hold, the part no longer than a stream, the lent lengths exact

@@ -19,14 +19,15 @@ use Rattle.pairs.specs.declared.Event.the-variants.{Pending, Point, Two, Error}
 use Rattle.pairs.specs.declared.Held.the-variants.{Nothing, Score}
 use Rattle.laws.specs.Limit.{limit}
 use Rattle.weights.specs.Weights.{weightCount, term, perByte}
-use Rattle.big5.specs.Standard.{entries, pairOf, decodeOf}
+use Rattle.big5_decoder.specs.Standard.{entries, pairOf, decodeOf}
 use Rattle.big5.specs.Scoring.{scaleOf, isHanzi, isDistinct, besideOf, besideHanzi, scored, holdsOf, hanziWeight, letterOf, hanziOf, otherOf, unitOf, pointOf, unmappedOf, extensionOf, isPair, extends, after, strayOf, errorOf, onEvent, Lent, lent, stepOf}
-use Rattle.big5.specs.Big5.{Sound, soundB, Small, ranAs, readyB, Ready, ranOf}
+use Rattle.big5.specs.Big5.{Sound, soundB, Small, ranAs, Weighed, readyB, Ready, ranOf}
 use Rattle.big5.specs.Ways.{beside-small, hanzi-small}
 use Rattle.big5.specs.declared.Big5.{Big5}
 use Rattle.big5.specs.declared.LatinCj.{LatinCj}
 use Rattle.big5.specs.declared.LatinCj.the-variants.{AsciiLetter, Cj, Other}
-use Rattle.big5.specs.declared.Ran.the-variants.{Unfit}
+use Rattle.big5.specs.declared.Ran.{Ran}
+use Rattle.big5.specs.declared.Ran.the-variants.{Live, Dropped, Unfit}
 use Rattle.big5.specs.declared.Scale.{Scale}
 use Rattle.big5.specs.declared.Scored.{Scored}
 
@@ -159,6 +160,12 @@ step-within t small n m b s =
 -- the same of a step that was live
 pub turn-within : (t : Lent) → Small (t .scale) → (n : ℕ) (m : Big5) (b : ℕ) (next : Big5) (g : ℤ) → Sound n m → stepOf t m b ≡ live next g → Sound (n + 1) next × (natAbs g ≤ perByte)
 turn-within t small n m b next g s e = rw e at (step-within t small n m b s)
+
+-- ---- the weights that a run has read
+pub weighed : (weights : List ℤ) (r : Ran) → Small (scaleOf weights) → Weighed weights r
+weighed weights (Live m s) h = h
+weighed weights Dropped h = tt
+weighed weights Unfit h = tt
 
 -- ---- a run over two parts, one after the other
 pub run-joins : (t : Lent) (o : Out (Unit {0}) Big5) (xs ys : List ℕ) → run (stepOf t) o (xs ++ ys) ≡ run (stepOf t) (run (stepOf t) o xs) ys

@@ -1,20 +1,29 @@
 -- The edge lines on Big5, from fresh, for all lent data that meets the line's premise. Assumes nothing.
-use mathlib.Core.Path.{_≡_, refl, ap, _∙_}
-use mathlib.Core.Bool.{false}
+use mathlib.Core.Path.{_≡_, refl, sym, ap, _∙_}
+use mathlib.Core.Bool.{true, false}
 use mathlib.Core.List.{[], _∷_}
-use Prim.Native.Nat.{ℕ}
+use Prim.Native.Nat.{ℕ, _≤_}
+use native.Mathlib.Omega.{arith}
 use lib.IntN.{pos, _+ℤ_, +ℤ-idl, +ℤ-idr}
 use lib.ListN.{getD}
-use Rattle.laws.specs.Lists.{any}
+use borrow.Author.Tests.{ne-eqb, lt-ltb, le-ltb}
+use Rattle.laws.specs.Lists.{any, isIn}
 use Rattle.laws.specs.Run.{none, live, plus, feed, run}
-use Rattle.pairs.specs.Pairs.{malformedOf, firstOf}
+use Rattle.octets.specs.Octets.{between}
+use Rattle.pairs.specs.Pairs.{isLead, decoded, malformedOf, firstOf}
+use Rattle.pairs.specs.PairsLaws.{lead-bounds}
+use Rattle.pairs.specs.Ranges.{inside, below, above, range-true}
+use Rattle.pairs.specs.declared.Event.the-variants.{Point}
 use Rattle.pairs.specs.declared.Held.{Held}
 use Rattle.pairs.specs.declared.Held.the-variants.{Nothing}
-use Rattle.big5.specs.Standard.{isMapped, pointerOf, entryOf, yieldOf, pairOf, decodeOf}
-use Rattle.big5.specs.Scoring.{otherOf, unmappedOf, extensionOf, strayOf, errorOf, freshOf, Lent, stepOf}
+use Rattle.big5_decoder.specs.Standard.{isTrail, isMapped, pointerOf, entryOf, yieldOf, pairOf, decodeOf}
+use Rattle.big5_decoder.specs.StandardLaws.{specials, mapped, pair-right}
+use Rattle.big5.specs.Ways.{step-on}
+use Rattle.big5.specs.Scoring.{isDistinct, otherOf, unitOf, pointOf, after, unmappedOf, extensionOf, strayOf, errorOf, freshOf, Lent, stepOf}
 use Rattle.big5.specs.declared.Big5.{Big5}
 use Rattle.big5.specs.declared.LatinCj.{LatinCj}
 use Rattle.big5.specs.declared.LatinCj.the-variants.{Cj, Other}
+use Rattle.big5.specs.declared.Scale.{Scale}
 
 -- a record with nothing pending and nothing held
 abbrev pub rest : LatinCj → ℕ → Big5
@@ -56,3 +65,29 @@ module _ (t : Lent) where
   pub special-88-62 : run (stepOf t) (live freshOf (pos 0)) (0x88 ∷ 0x62 ∷ []) ≡ live (rest Other 0x62) (t .scale .other)
   unfolding run feed plus stepOf decodeOf firstOf pairOf yieldOf otherOf
   special-88-62 = ap (live (rest Other 0x62)) (+ℤ-idl (pos 0 +ℤ t .scale .other) ∙ +ℤ-idl (t .scale .other))
+
+-- ---- mapped private use
+not-distinct : (u : ℕ) → 0xE000 ≤ u → u ≤ 0xF8FF → isDistinct u ≡ false
+unfolding any
+not-distinct u p q = rw (ne-eqb u 0x3000 (λ z. omega arith), ne-eqb u 0x3001 (λ z. omega arith), ne-eqb u 0x3002 (λ z. omega arith), ne-eqb u 0xFF08 (λ z. omega arith), ne-eqb u 0xFF09 (λ z. omega arith), ne-eqb u 0xFF01 (λ z. omega arith), ne-eqb u 0xFF0C (λ z. omega arith), ne-eqb u 0xFF1B (λ z. omega arith), ne-eqb u 0xFF1F (λ z. omega arith))
+
+point-private : (w : Scale) (m : Big5) (u : ℕ) → between 0xE000 0xF8FF u ≡ true → pointOf w m u ≡ otherOf m (w .other)
+unfolding pointOf unitOf
+point-private w m u e =
+    let h = range-true 0xE000 0xF8FF u e in
+    rw (lt-ltb u 0x10000 (omega arith), above 0x61 0x7A u (omega arith), above 0x41 0x5A u (omega arith), above 0x3400 0x9FFF u (omega arith), below 0xF900 0xFAFF u (omega arith), not-distinct u (h .0) (h .1), le-ltb u 0x80 (omega arith))
+
+private-mapped : (u : ℕ) → between 0xE000 0xF8FF u ≡ true → isMapped u ≡ true
+private-mapped u e = let h = range-true 0xE000 0xF8FF u e in rw (above 0x80 0xD7FF u (omega arith), inside 0xE000 0xFFFF u (omega arith) (omega arith))
+
+mapped-decoded : (t : Lent) (lead b : ℕ) → isLead lead ≡ true → isTrail b ≡ true → isIn specials (pointerOf lead b) ≡ false → isMapped (getD (t .index) (pointerOf lead b) 0) ≡ true → decoded 0 (Point (getD (t .index) (pointerOf lead b) 0)) ≡ decodeOf (t .index) lead b
+unfolding decodeOf
+mapped-decoded t lead b l r s e =
+    let h = lead-bounds lead l in
+    rw (ne-eqb lead 0 (λ z. omega arith), pair-right (t .index) lead b (Point (getD (t .index) (pointerOf lead b) 0)) (mapped lead b r s e))
+
+-- a pair that the index maps to private use scores as other; the private-use weight is for unmapped pairs
+pub private-use : (t : Lent) (m : Big5) (b : ℕ) → isLead (m .lead) ≡ true → isTrail b ≡ true → isIn specials (pointerOf (m .lead) b) ≡ false → between 0xE000 0xF8FF (getD (t .index) (pointerOf (m .lead) b) 0) ≡ true → stepOf t m b ≡ after 0 b (otherOf m (t .scale .other))
+private-use t m b l r s e =
+    let u = getD (t .index) (pointerOf (m .lead) b) 0 in
+    sym (step-on t m b (decoded 0 (Point u)) (mapped-decoded t (m .lead) b l r s (private-mapped u e)) (Point u) refl) ∙ ap (after 0 b) (point-private (t .scale) m u e)

@@ -15,7 +15,7 @@ use Rattle.pairs.specs.Pairs.{isHeldLead, releasedOf}
 use Rattle.pairs.specs.declared.Event.{Event}
 use Rattle.pairs.specs.declared.Event.the-variants.{Pending, Point, Two, Error}
 use Rattle.pairs.specs.declared.Held.the-variants.{Nothing, Score}
-use Rattle.big5.specs.Standard.{decodeOf}
+use Rattle.big5_decoder.specs.Standard.{decodeOf}
 use Rattle.big5.specs.Scoring.{isHanzi, isDistinct, isCj, besideOf, scored, holdsOf, hanziWeight, letterOf, hanziOf, otherOf, unitOf, pointOf, unmappedOf, extensionOf, isPair, extends, after, strayOf, errorOf, onEvent, Lent, stepOf}
 use Rattle.big5.specs.Big5.{closeOf}
 use Rattle.big5.specs.declared.Big5.{Big5}

@@ -13,7 +13,7 @@ use Rattle.pairs.specs.declared.Event.the-variants.{Pending, Point, Two, Error}
 use Rattle.pairs.specs.declared.Held.{Held}
 use Rattle.pairs.specs.declared.Held.the-variants.{Nothing, Score}
 use Rattle.weights.specs.Weights.{weightOf, cjkLatinAdjacency, cjPunctuation, cjkOther, big5Level1, big5Other, big5Pua, big5Extension}
-use Rattle.big5.specs.Standard.{isTrail, decodeOf}
+use Rattle.big5_decoder.specs.Standard.{isTrail, decodeOf}
 use Rattle.big5.specs.declared.Big5.{Big5}
 use Rattle.big5.specs.declared.LatinCj.{LatinCj}
 use Rattle.big5.specs.declared.LatinCj.the-variants.{AsciiLetter, Cj, Other}

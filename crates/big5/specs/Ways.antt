@@ -1,7 +1,6 @@
 -- What the code's branches need of the definitions: sizes, and sums as the code makes them. Assumes nothing.
 use mathlib.Core.Path.{_≡_, refl, sym, ap, _∙_}
-use mathlib.Core.Bool.{Bool, true, false, cond, _&&_, _||_}
-use mathlib.Core.List.{List}
+use mathlib.Core.Bool.{Bool, true, false, cond, _&&_}
 use mathlib.Core.Logic.{_⊎_, inl, inr}
 use Prim.Native.Nat.{ℕ, _+_, _<_, _≤_}
 use native.Mathlib.Omega.{arith}
@@ -12,32 +11,19 @@ use mir.Syntax.{w64}
 use mir.Val.{SFits}
 use Rattle.laws.specs.Run.{none}
 use Rattle.octets.specs.Octets.{between}
-use Rattle.pairs.specs.Pairs.{releasedOf, SmallHeld, malformedOf}
-use Rattle.pairs.specs.Ranges.{range-true}
+use Rattle.pairs.specs.Pairs.{releasedOf, SmallHeld}
 use Rattle.pairs.specs.Sums.{kept, sum-fits, sum-read, sum3-fits, sum3-read}
 use Rattle.pairs.specs.declared.Decoded.{Decoded}
 use Rattle.pairs.specs.declared.Event.{Event}
-use Rattle.pairs.specs.declared.Event.the-variants.{Two}
 use Rattle.pairs.specs.declared.Held.the-variants.{Nothing}
 use Rattle.weights.specs.Weights.{term}
-use Rattle.big5.specs.Standard.{isTrail, pointerOf, entryOf, yieldOf, pairOf, decodeOf}
+use Rattle.big5_decoder.specs.Standard.{decodeOf}
 use Rattle.big5.specs.Scoring.{besideOf, hanziWeight, scored, extensionOf, isExtension, extends, after, strayOf, onEvent, Lent, stepOf}
 use Rattle.big5.specs.Big5.{Small}
 use Rattle.big5.specs.declared.Big5.{Big5}
 use Rattle.big5.specs.declared.LatinCj.{LatinCj}
 use Rattle.big5.specs.declared.LatinCj.the-variants.{AsciiLetter, Cj, Other}
 use Rattle.big5.specs.declared.Scale.{Scale}
-
--- ---- trails
-either : (a b : Bool) → (a || b) ≡ true → (a ≡ true) ⊎ (b ≡ true)
-either true b e = inl refl
-either false b e = inr e
-
-pub trail-cases : (b : ℕ) → isTrail b ≡ true → ((0x40 ≤ b) × (b ≤ 0x7E)) ⊎ ((0xA1 ≤ b) × (b ≤ 0xFE))
-trail-cases b e = cases (either (between 0x40 0x7E b) (between 0xA1 0xFE b) e) where
-  cases : (between 0x40 0x7E b ≡ true) ⊎ (between 0xA1 0xFE b ≡ true) → ((0x40 ≤ b) × (b ≤ 0x7E)) ⊎ ((0xA1 ≤ b) × (b ≤ 0xFE))
-  cases (inl t) = inl (range-true 0x40 0x7E b t)
-  cases (inr t) = inr (range-true 0xA1 0xFE b t)
 
 -- ---- sizes
 pub pick-small : (t : Bool) (a b : ℤ) (n : ℕ) → natAbs a ≤ n → natAbs b ≤ n → natAbs (cond t a b) ≤ n
@@ -74,32 +60,6 @@ module _ (w : Scale) (small : Small w) where
 
     pub unmapped-read : kept (kept (kept (releasedOf (m .held)) +ℤ kept (w .pua)) +ℤ kept (besideOf w (m .prev))) ≡ releasedOf (m .held) +ℤ w .pua +ℤ besideOf w (m .prev)
     unmapped-read = sum3-read (releasedOf (m .held)) (w .pua) (besideOf w (m .prev)) term term term held (small .pua) (beside-small (m .prev)) (omega arith)
-
--- ---- the pointers with two code points
-module _ (index : List ℕ) (at b : ℕ) where
-  pub yield-1133 : at ≡ 1133 → Two 0xCA 0x304 ≡ yieldOf index at b
-  unfolding yieldOf
-  yield-1133 e = rw (eq-eqb at 1133 e)
-
-  pub yield-1135 : at ≡ 1135 → Two 0xCA 0x30C ≡ yieldOf index at b
-  unfolding yieldOf
-  yield-1135 e = rw (ne-eqb at 1133 (λ h. omega (arith, h)), eq-eqb at 1135 e)
-
-  pub yield-1164 : at ≡ 1164 → Two 0xEA 0x304 ≡ yieldOf index at b
-  unfolding yieldOf
-  yield-1164 e = rw (ne-eqb at 1133 (λ h. omega (arith, h)), ne-eqb at 1135 (λ h. omega (arith, h)), eq-eqb at 1164 e)
-
-  pub yield-1166 : at ≡ 1166 → Two 0xEA 0x30C ≡ yieldOf index at b
-  unfolding yieldOf
-  yield-1166 e = rw (ne-eqb at 1133 (λ h. omega (arith, h)), ne-eqb at 1135 (λ h. omega (arith, h)), ne-eqb at 1164 (λ h. omega (arith, h)), eq-eqb at 1166 e)
-
-  pub yield-entry : (at ≡ 1133 → ⊥) → (at ≡ 1135 → ⊥) → (at ≡ 1164 → ⊥) → (at ≡ 1166 → ⊥) → entryOf index at b ≡ yieldOf index at b
-  unfolding yieldOf
-  yield-entry p q r s = rw (ne-eqb at 1133 p, ne-eqb at 1135 q, ne-eqb at 1164 r, ne-eqb at 1166 s)
-
-  pub pair-at : (lead : ℕ) (e : Event) → isTrail b ≡ true → at ≡ pointerOf lead b → e ≡ yieldOf index at b → e ≡ pairOf index lead b
-  unfolding pairOf
-  pair-at lead e t p q = q ∙ (ap (λ (k : ℕ). yieldOf index k b) p ∙ sym (ap (λ (x : Bool). cond x (yieldOf index (pointerOf lead b) b) (malformedOf b)) t))
 
 -- ---- extensions
 module _ (before b : ℕ) where

@@ -1,4 +1,4 @@
-// Big5: the Standard's decoder over a lent index, and the scoring machine over what it yields.
+// Big5: the scoring machine over what the Standard's decoder yields.
 ghost use mathlib.Core.Path.{_≡_};
 ghost use mathlib.Core.Bool.{true};
 ghost use Prim.Native.Nat.{_*_, _≤_, _<_};
@@ -8,13 +8,11 @@ ghost use Rattle.laws.specs.Run.{live, run};
 ghost use Rattle.pairs.specs.Pairs.{isLeadOrNone, SmallHeld};
 ghost use Rattle.laws.specs.Limit.{limit};
 ghost use Rattle.weights.specs.Weights.{term, perByte, weightCount};
-ghost use Rattle.big5.specs.Standard.{entries, isTrail, pointerOf, isMapped, entryOf, pairOf, decodeOf, replyOf};
+ghost use Rattle.big5_decoder.specs.Standard.{entries};
 ghost use Rattle.big5.specs.Scoring.{scaleOf, isHanzi, isDistinct, besideOf, holdsOf, hanziWeight, letterOf, hanziOf, otherOf, unitOf, pointOf, unmappedOf, extensionOf, isPair, isExtension, after as afterOf, strayOf, errorOf, onEvent, lent, freshOf, stepOf, scored};
-ghost use Rattle.big5.specs.Big5.{Sound, soundB, Small, outOf, ranAs, Bounded, readyB, Ready, ranOf, closedOf};
-use pairs::Decoded;
+ghost use Rattle.big5.specs.Big5.{Sound, soundB, Small, outOf, ranAs, Bounded, Weighed, readyB, Ready, ranOf, closedOf};
 use pairs::Event;
 use pairs::Held;
-use pairs::Reply;
 
 // The kind of what came before.
 pub enum LatinCj {
@@ -61,111 +59,6 @@ struct Scored {
     gain: i64,
 }
 
-// ---- the decoder
-fn is_trail(b: u8) -> bool
-    ensures { λ r. ⌜ r ≡ isTrail b ⌝ }
-{
-    if b < 0x40 {
-        return false;
-    }
-    if b < 0x7F {
-        return true;
-    }
-    if b < 0xA1 {
-        return false;
-    }
-    b < 0xFF
-}
-
-fn pointer(lead: u8, b: u8) -> usize
-    requires { ⌜ (0x81 ≤ lead) × (lead ≤ 0xFE) ⌝ }
-    requires { ⌜ isTrail b ≡ true ⌝ }
-    ensures { λ r. ⌜ r ≡ pointerOf lead b ⌝ }
-    ensures { λ r. ⌜ r < entries ⌝ }
-{
-    let row = (lead - 0x81) as usize * 157;
-    if b < 0x7F {
-        return row + (b - 0x40) as usize;
-    }
-    row + (b - 0x62) as usize
-}
-
-fn is_mapped(entry: u32) -> bool
-    ensures { λ r. ⌜ r ≡ isMapped entry ⌝ }
-{
-    if entry < 0x80 {
-        return false;
-    }
-    if entry < 0xD800 {
-        return true;
-    }
-    if entry < 0xE000 {
-        return false;
-    }
-    if entry < 0x10000 {
-        return true;
-    }
-    if entry < 0x20000 {
-        return false;
-    }
-    entry < 0x30000
-}
-
-// What stands at a pointer of the index.
-fn looked_up(at: usize, b: u8, index: &[u32]) -> Event
-    requires { ⌜ at < length (now index) ⌝ }
-    ensures { λ r. ⌜ r ≡ entryOf (now (index .entry)) at b ⌝ }
-{
-    let entry = index[at];
-    if is_mapped(entry) {
-        return Event::Point(entry);
-    }
-    pairs::malformed(b)
-}
-
-// A lead and the byte after it.
-fn pair(lead: u8, b: u8, index: &[u32]) -> Event
-    requires { ⌜ (0x81 ≤ lead) × (lead ≤ 0xFE) ⌝ }
-    requires { ⌜ length (now index) ≡ entries ⌝ }
-    ensures { λ r. ⌜ r ≡ pairOf (now (index .entry)) lead b ⌝ }
-{
-    if is_trail(b) {
-        let at = pointer(lead, b);
-        return match at {
-            1133 => Event::Two(0xCA, 0x304),
-            1135 => Event::Two(0xCA, 0x30C),
-            1164 => Event::Two(0xEA, 0x304),
-            1166 => Event::Two(0xEA, 0x30C),
-            _ => looked_up(at, b, index),
-        };
-    }
-    pairs::malformed(b)
-}
-
-fn decode(lead: u8, b: u8, index: &[u32]) -> Decoded
-    requires { ⌜ isLeadOrNone lead ≡ true ⌝ }
-    requires { ⌜ length (now index) ≡ entries ⌝ }
-    ensures { λ r. ⌜ r ≡ decodeOf (now (index .entry)) lead b ⌝ }
-{
-    if lead == 0 {
-        return pairs::first(b);
-    }
-    let event = pair(lead, b, index);
-    Decoded { lead: 0, event }
-}
-
-// The decoder alone: a lead, or 0, and a byte, over an index of the right length.
-pub fn decoded(lead: u8, b: u8, index: &[u32]) -> Reply
-    ensures { λ r. ⌜ r ≡ replyOf (now (index .entry)) lead b ⌝ }
-{
-    if pairs::is_lead_or_none(lead) {
-        if index.len() == Big5::INDEX {
-            return Reply::Byte(decode(lead, b, index));
-        }
-    }
-    Reply::Unfit
-}
-
 // ---- what the tests of a unit say
 fn is_hanzi(u: u32) -> bool
     ensures { λ r. ⌜ r ≡ isHanzi u ⌝ }
@@ -198,13 +91,13 @@ impl Scale {
         ensures { λ r. ⌜ Small r ⌝ }
     {
         Scale {
-            adjacency: pairs::weight(weights, weights::CJK_LATIN_ADJACENCY),
-            punctuation: pairs::weight(weights, weights::CJ_PUNCTUATION),
-            other: pairs::weight(weights, weights::CJK_OTHER),
-            level1: pairs::weight(weights, weights::BIG5_LEVEL_1),
-            hanzi: pairs::weight(weights, weights::BIG5_OTHER),
-            pua: pairs::weight(weights, weights::BIG5_PUA),
-            extension: pairs::weight(weights, weights::BIG5_EXTENSION),
+            adjacency: weights::weight(weights, weights::CJK_LATIN_ADJACENCY),
+            punctuation: weights::weight(weights, weights::CJ_PUNCTUATION),
+            other: weights::weight(weights, weights::CJK_OTHER),
+            level1: weights::weight(weights, weights::BIG5_LEVEL_1),
+            hanzi: weights::weight(weights, weights::BIG5_OTHER),
+            pua: weights::weight(weights, weights::BIG5_PUA),
+            extension: weights::weight(weights, weights::BIG5_EXTENSION),
         }
     }
 
@@ -234,7 +127,7 @@ impl Scale {
 
 impl Big5 {
     // How many entries its index has.
-    pub const INDEX: usize = 19782;
+    pub const INDEX: usize = big5_decoder::INDEX;
 
     // How many bytes a part has at most.
     pub const LIMIT: usize = 268435456;
@@ -375,7 +268,7 @@ fn is_pair(prev_byte: u8, b: u8) -> bool
     ensures { λ r. ⌜ r ≡ isPair «prev_byte» b ⌝ }
 {
     if pairs::is_lead(prev_byte) {
-        return is_trail(b);
+        return big5_decoder::is_trail(b);
     }
     false
 }
@@ -480,7 +373,7 @@ impl Big5 {
         requires { ⌜ length (now index) ≡ entries ⌝ }
         ensures { λ r. ⌜ outOf r ≡ stepOf (lent (now (index .entry)) w) self b ⌝ }
     {
-        let d = decode(self.lead, b, index);
+        let d = big5_decoder::decode(self.lead, b, index);
         let event = d.event;
         match event {
             Event::Pending => self.pending(d.lead, b),
@@ -547,6 +440,7 @@ impl Big5 {
     pub fn run(self, part: &[u8], index: &[u32], weights: &[i32]) -> Ran
         ensures { λ r. ⌜ r ≡ ranOf (now (index .entry)) (now (weights .entry)) self (now (part .entry)) ⌝ }
         ensures { λ r. ⌜ Bounded (perByte * length (now (part .entry))) r ⌝ }
+        ensures { λ r. ⌜ Weighed (now (weights .entry)) r ⌝ }
     {
         if is_ready(self, part, index, weights) {
             return self.go(part, index, Scale::read(weights));

@@ -1,15 +1,19 @@
 // A chunk of a stream, and what is replied.
+ghost use mathlib.Core.Bool.{false};
 ghost use mathlib.Core.Path.{_≡_};
+ghost use Prim.Native.Nat.{_+_, _≤_};
+ghost use lib.ListN.{length};
+ghost use Rattle.laws.specs.Limit.{limit};
+ghost use Rattle.kinds.specs.Tables.{single, singles, tables};
+ghost use Rattle.detector.specs.Feed.{numberOf, replyFlag, verdictOf, accepted, advanceOf, feedOf, Fit, StaysIn};
+ghost use Rattle.detector.specs.Order.{InOrder};
 use crate::front::Due;
-use crate::front::Front;
 use crate::state::State;
 use kinds::tables;
 use places::order;
-use places::place::Slate;
 use places::slate;
-use places::slate::Slated;
 
-// With each: whether any non-ASCII byte has reached the places so far.
+// With each but the last: whether any non-ASCII byte has reached the places so far.
 pub enum Reply {
     Accepted(bool),
     Closed(bool),
@@ -30,7 +34,10 @@ pub enum Verdict {
 }
 
 impl Reply {
-    pub fn number(self) -> u8 {
+    // Its number in document 01.
+    pub fn number(self) -> u8
+        ensures { λ r. ⌜ r ≡ numberOf self ⌝ }
+    {
         match self {
             Reply::Accepted(_) => 0,
             Reply::Closed(_) => 1,
@@ -40,7 +47,9 @@ impl Reply {
         }
     }
 
-    pub fn flag(self) -> bool {
+    pub fn flag(self) -> bool
+        ensures { λ r. ⌜ r ≡ replyFlag self ⌝ }
+    {
         match self {
             Reply::Accepted(flag) => flag,
             Reply::Closed(flag) => flag,
@@ -52,28 +61,24 @@ impl Reply {
 }
 
 // The tests, in document 01's order: 4, 1, 2, 3.
-fn verdict(state: State, sized: bool, bytes: usize) -> Verdict {
+fn judged(state: State, sized: bool, bytes: usize) -> Verdict
+    ensures { λ r. ⌜ r ≡ verdictOf state sized bytes ⌝ }
+{
     let front = state.front;
+    let flag = front.flag();
     if !state.is_in_order() {
         return Verdict::Refuse(Reply::NotInOrder);
     }
     if front.closed {
-        return Verdict::Refuse(Reply::Closed(front.flag()));
+        return Verdict::Refuse(Reply::Closed(flag));
     }
     if !sized {
-        return Verdict::Refuse(Reply::WrongLength(front.flag()));
+        return Verdict::Refuse(Reply::WrongLength(flag));
     }
     if order::LIMIT - front.bytes < bytes as u64 {
-        return Verdict::Refuse(Reply::TooLong(front.flag()));
+        return Verdict::Refuse(Reply::TooLong(flag));
     }
     Verdict::Accept
-}
-
-fn or_same(slated: Slated, places: Slate) -> Slate {
-    match slated {
-        Slated::Fed(fed) => fed,
-        Slated::Unfit => places,
-    }
 }
 
 fn advance(
@@ -97,77 +102,110 @@ fn advance(
     jis: &[u32],
     extras: &[i16],
     weights: &[i32],
-) -> State {
+) -> State
+    requires { ⌜ Fit (tables (singles (single (now classes4) (now marks4) (now pairs4)) (single (now classes5) (now marks5) (now pairs5)) (single (now classes6) (now marks6) (now pairs6)) (single (now classes7) (now marks7) (now pairs7))) (now big5) (now euckr) (now jis) (now extras) (now weights)) state (now chunk) ⌝ }
+    ensures { λ r. ⌜ r ≡ advanceOf (tables (singles (single (now (classes4 .entry)) (now (marks4 .entry)) (now (pairs4 .entry))) (single (now (classes5 .entry)) (now (marks5 .entry)) (now (pairs5 .entry))) (single (now (classes6 .entry)) (now (marks6 .entry)) (now (pairs6 .entry))) (single (now (classes7 .entry)) (now (marks7 .entry)) (now (pairs7 .entry)))) (now (big5 .entry)) (now (euckr .entry)) (now (jis .entry)) (now (extras .entry)) (now (weights .entry))) state (now (chunk .entry)) last ⌝ }
+    ensures { λ r. ⌜ InOrder r ⌝ }
+{
     let front = state.front;
     let places = state.places;
     let trigger = front.trigger(chunk);
     let next = front.after(trigger, chunk, last);
-    let Due::Part(before, from) = front.due(trigger) else {
-        return State {
+    match front.due(trigger) {
+        Due::Nothing => State {
             front: next,
             places,
-        };
-    };
-    let part = &chunk[from..];
-    let context = front.context;
-    let saved = context.bytes();
-    let warm = or_same(
-        slate::feed(
-            places,
-            &saved[..before],
-            false,
-            classes4,
-            marks4,
-            pairs4,
-            classes5,
-            marks5,
-            pairs5,
-            classes6,
-            marks6,
-            pairs6,
-            classes7,
-            marks7,
-            pairs7,
-            big5,
-            euckr,
-            jis,
-            extras,
-            weights,
-        ),
-        places,
-    );
-    let fed = or_same(
-        slate::feed(
-            warm,
-            part,
-            last,
-            classes4,
-            marks4,
-            pairs4,
-            classes5,
-            marks5,
-            pairs5,
-            classes6,
-            marks6,
-            pairs6,
-            classes7,
-            marks7,
-            pairs7,
-            big5,
-            euckr,
-            jis,
-            extras,
-            weights,
-        ),
-        warm,
-    );
-    State {
-        front: next.counted(part),
-        places: fed,
+        },
+        Due::Part(from) => {
+            let part = &chunk[from..];
+            let fed = slate::feed(
+                places,
+                part,
+                last,
+                classes4,
+                marks4,
+                pairs4,
+                classes5,
+                marks5,
+                pairs5,
+                classes6,
+                marks6,
+                pairs6,
+                classes7,
+                marks7,
+                pairs7,
+                big5,
+                euckr,
+                jis,
+                extras,
+                weights,
+            );
+            let fed_places = fed.places;
+            State {
+                front: next.counted(part),
+                places: fed_places,
+            }
+        }
+        Due::After(count) => {
+            let context = front.context;
+            let saved = context.bytes();
+            let warm = slate::feed(
+                places,
+                &saved[..count],
+                false,
+                classes4,
+                marks4,
+                pairs4,
+                classes5,
+                marks5,
+                pairs5,
+                classes6,
+                marks6,
+                pairs6,
+                classes7,
+                marks7,
+                pairs7,
+                big5,
+                euckr,
+                jis,
+                extras,
+                weights,
+            );
+            let warm_places = warm.places;
+            let fed = slate::feed(
+                warm_places,
+                chunk,
+                last,
+                classes4,
+                marks4,
+                pairs4,
+                classes5,
+                marks5,
+                pairs5,
+                classes6,
+                marks6,
+                pairs6,
+                classes7,
+                marks7,
+                pairs7,
+                big5,
+                euckr,
+                jis,
+                extras,
+                weights,
+            );
+            let fed_places = fed.places;
+            State {
+                front: next.counted(chunk),
+                places: fed_places,
+            }
+        }
     }
 }
 
-fn accepted(state: State) -> Fed {
+fn accepted(state: State) -> Fed
+    ensures { λ r. ⌜ r ≡ accepted state ⌝ }
+{
     let front = state.front;
     Fed {
         state,
@@ -197,7 +235,10 @@ pub fn feed(
     jis: &[u32],
     extras: &[i16],
     weights: &[i32],
-) -> Fed {
+) -> Fed
+    ensures { λ r. ⌜ r ≡ feedOf (tables (singles (single (now (classes4 .entry)) (now (marks4 .entry)) (now (pairs4 .entry))) (single (now (classes5 .entry)) (now (marks5 .entry)) (now (pairs5 .entry))) (single (now (classes6 .entry)) (now (marks6 .entry)) (now (pairs6 .entry))) (single (now (classes7 .entry)) (now (marks7 .entry)) (now (pairs7 .entry)))) (now (big5 .entry)) (now (euckr .entry)) (now (jis .entry)) (now (extras .entry)) (now (weights .entry))) state (now (chunk .entry)) last ⌝ }
+    ensures { λ r. ⌜ StaysIn (r .reply) (r .state) ⌝ }
+{
     let sized = tables::are_sized(
         classes4,
         marks4,
@@ -217,7 +258,7 @@ pub fn feed(
         extras,
         weights,
     );
-    match verdict(state, sized, chunk.len()) {
+    match judged(state, sized, chunk.len()) {
         Verdict::Refuse(reply) => Fed { state, reply },
         Verdict::Accept => accepted(advance(
             state,

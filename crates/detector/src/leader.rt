@@ -1,7 +1,10 @@
 // Which place leads.
 ghost use mathlib.Core.Path.{_≡_};
+ghost use Rattle.detector.specs.Leader.{betterOf, bestFrom, leaderOf};
+ghost use Rattle.detector.specs.declared.leader.Best.the-variants as best;
 use crate::state::State;
 use places::place::Score;
+use places::place::Slate;
 use places::slate::PLACES;
 
 // Before any trigger; no place has a score; or the number of the place.
@@ -11,13 +14,15 @@ pub enum Leader {
     Place(usize),
 }
 
-// The score that leads so far, and where.
-enum Best {
+// The greatest score so far, and where it stands first.
+pub(crate) enum Best {
     None,
     Score(usize, i64),
 }
 
-fn better(best: Best, k: usize, score: Score) -> Best {
+fn better(best: Best, k: usize, score: Score) -> Best
+    ensures { λ r. ⌜ r ≡ betterOf best k score ⌝ }
+{
     let Score::Live(n) = score else {
         return best;
     };
@@ -32,12 +37,9 @@ fn better(best: Best, k: usize, score: Score) -> Best {
     }
 }
 
-pub fn leader(state: State) -> Leader {
-    let front = state.front;
-    let places = state.places;
-    if !front.is_triggered() {
-        return Leader::Ascii;
-    }
+fn greatest(places: Slate) -> Best
+    ensures { λ r. ⌜ r ≡ bestFrom best.None 0 places ⌝ }
+{
     let mut best = Best::None;
     let mut k = 0;
     while k < PLACES {
@@ -46,8 +48,20 @@ pub fn leader(state: State) -> Leader {
         best = better(best, k, score);
         k += 1;
     }
-    match best {
-        Best::None => Leader::None,
-        Best::Score(at, _) => Leader::Place(at),
+    best
+}
+
+// The place that leads, the lowest at a tie.
+pub fn of(state: State) -> Leader
+    ensures { λ r. ⌜ r ≡ leaderOf state ⌝ }
+{
+    let front = state.front;
+    let places = state.places;
+    if front.is_triggered() {
+        return match greatest(places) {
+            Best::None => Leader::None,
+            Best::Score(at, _) => Leader::Place(at),
+        };
     }
+    Leader::Ascii
 }

@@ -1,6 +1,9 @@
 // The state of a stream: the front and the slate.
 ghost use mathlib.Core.Path.{_≡_};
+ghost use Rattle.detector.specs.Order.{stateB};
+ghost use Rattle.detector.specs.State.{startOf};
 use crate::front::Front;
+use kinds::tests::both;
 use places::order;
 use places::place::Slate;
 use places::slate;
@@ -11,7 +14,9 @@ pub struct State {
 }
 
 // A stream's start; bit k of `bits` says whether place k takes part.
-pub fn start(bits: u8) -> State {
+pub fn start(bits: u8) -> State
+    ensures { λ r. ⌜ r ≡ startOf bits ⌝ }
+{
     State {
         front: Front::fresh(),
         places: slate::start(bits),
@@ -20,11 +25,15 @@ pub fn start(bits: u8) -> State {
 
 impl State {
     // Whether a start and feeds can have led to a state like this.
-    pub fn is_in_order(self) -> bool {
+    pub fn is_in_order(self) -> bool
+        ensures { λ r. ⌜ r ≡ stateB self ⌝ }
+    {
         let front = self.front;
-        if !front.is_in_order() {
-            return false;
-        }
-        order::are_in_order(self.places, front.bytes, front.closed, front.is_triggered())
+        let places = self.places;
+        let fed = front.is_triggered();
+        both(
+            front.is_in_order(),
+            order::are_in_order(places, front.bytes, front.closed, fed),
+        )
     }
 }

@@ -1,9 +1,11 @@
-// Drives one machine alone and prints a digest of its records: what `oracle drive --digest` prints for the same input
-// (oracle/README.md has the format). The places that no machine here serves print nothing of their own.
+// Drives one machine alone and prints a digest of its records, or its last record in words: what `oracle drive --digest`
+// prints for the same input (oracle/README.md has the format).
 mod digest;
+mod input;
 mod number;
 mod place;
 mod record;
+mod sheet;
 mod tables;
 
 ghost use mathlib.Core.Path.{_≡_};
@@ -19,39 +21,39 @@ fn all_pairs(
     start: Place,
     classes: &[u8],
     marks: &[u8],
-    pairs: &[i16],
+    scores: &[i16],
     weights: &[i32],
-    jis: &[u32],
+    index: &[u32],
 ) -> Digest {
     let mut d = Digest::fresh();
     let mut stream: usize = 0;
     while stream < 65536 {
         let bytes = [(stream / 256) as u8, (stream % 256) as u8];
-        let first = start.fed(&bytes[..1], classes, marks, pairs, weights, jis);
-        let second = first.fed(&bytes[1..], classes, marks, pairs, weights, jis);
-        let closed = second.closed(classes, marks, pairs, weights);
+        let first = start.fed(&bytes[..1], classes, marks, scores, weights, index);
+        let second = first.fed(&bytes[1..], classes, marks, scores, weights, index);
+        let closed = second.closed(classes, marks, scores, weights);
         d = record::add(record::add(record::add(d, first), second), closed);
         stream += 1;
     }
     d
 }
 
-// One stream in one call: the record at its end.
+// One stream in one call: the place at its end.
 fn whole_stream(
     start: Place,
     bytes: &[u8],
     close: bool,
     classes: &[u8],
     marks: &[u8],
-    pairs: &[i16],
+    scores: &[i16],
     weights: &[i32],
-    jis: &[u32],
-) -> Digest {
-    let p = start.fed(bytes, classes, marks, pairs, weights, jis);
+    index: &[u32],
+) -> Place {
+    let p = start.fed(bytes, classes, marks, scores, weights, index);
     if close {
-        return record::add(Digest::fresh(), p.closed(classes, marks, pairs, weights));
+        return p.closed(classes, marks, scores, weights);
     }
-    record::add(Digest::fresh(), p)
+    p
 }
 
 // One stream byte by byte: the record after each, and after the close if there is one.
@@ -61,93 +63,128 @@ fn one_stream(
     close: bool,
     classes: &[u8],
     marks: &[u8],
-    pairs: &[i16],
+    scores: &[i16],
     weights: &[i32],
-    jis: &[u32],
+    index: &[u32],
 ) -> Digest {
     let mut d = Digest::fresh();
     let mut p = start;
     let mut i = 0;
     while i < bytes.len() {
-        p = p.fed(&bytes[i..i + 1], classes, marks, pairs, weights, jis);
+        p = p.fed(&bytes[i..i + 1], classes, marks, scores, weights, index);
         d = record::add(d, p);
         i += 1;
     }
     if close {
-        return record::add(d, p.closed(classes, marks, pairs, weights));
+        return record::add(d, p.closed(classes, marks, scores, weights));
     }
     d
 }
 
-// The next byte of the input, or 256 at its end.
-fn next_byte() -> usize {
-    let mut one = [0u8; 1];
-    if io::read_full(STDIN_FILENO, &mut one) != 1 {
-        return 256;
+// What a stream's end prints: its line, or its digest.
+fn show(command: usize, p: Place) {
+    if command == 0x4C {
+        sheet::print(p);
+        return;
     }
-    number::index(one[0])
+    record::add(Digest::fresh(), p).print();
 }
 
-fn read_part(buf: &mut [u8], len: usize) -> usize
-    requires { ⌜ len ≤ length (now buf) ⌝ }
-{
-    io::read_full(STDIN_FILENO, &mut buf[..len])
-}
-
-// A stream's bytes, of which the length is known, read from standard input.
-fn read_bytes(
+// A stream and what its command prints of it.
+fn run_stream(
     start: Place,
-    whole: bool,
+    command: usize,
+    part: &[u8],
+    close: bool,
+    classes: &[u8],
+    marks: &[u8],
+    scores: &[i16],
+    weights: &[i32],
+    index: &[u32],
+) {
+    if command == 0x4D {
+        one_stream(start, part, close, classes, marks, scores, weights, index).print();
+        return;
+    }
+    let end = whole_stream(start, part, close, classes, marks, scores, weights, index);
+    show(command, end);
+}
+
+// A short stream, read from standard input: filling a small buffer takes little time.
+fn read_short(
+    start: Place,
+    command: usize,
     len: usize,
     close: bool,
     classes: &[u8],
     marks: &[u8],
-    pairs: &[i16],
+    scores: &[i16],
     weights: &[i32],
-    jis: &[u32],
+    index: &[u32],
+) -> bool
+    requires { ⌜ len ≤ 256 ⌝ }
+{
+    let mut bytes = [0u8; 256];
+    if input::part(&mut bytes, len) < len {
+        return false;
+    }
+    let part = &bytes[0..len];
+    run_stream(
+        start,
+        command,
+        part,
+        close,
+        classes,
+        marks,
+        scores,
+        weights,
+        index,
+    );
+    true
+}
+
+fn read_long(
+    start: Place,
+    command: usize,
+    len: usize,
+    close: bool,
+    classes: &[u8],
+    marks: &[u8],
+    scores: &[i16],
+    weights: &[i32],
+    index: &[u32],
 ) -> bool
     requires { ⌜ len ≤ 65536 ⌝ }
 {
     let mut bytes = [0u8; 65536];
-    if read_part(&mut bytes, len) < len {
+    if input::part(&mut bytes, len) < len {
         return false;
     }
-    if whole {
-        whole_stream(
-            start,
-            &bytes[..len],
-            close,
-            classes,
-            marks,
-            pairs,
-            weights,
-            jis,
-        ).print();
-        return true;
-    }
-    one_stream(
+    let part = &bytes[0..len];
+    run_stream(
         start,
-        &bytes[..len],
+        command,
+        part,
         close,
         classes,
         marks,
-        pairs,
+        scores,
         weights,
-        jis,
-    ).print();
+        index,
+    );
     true
 }
 
 fn read_stream(
     start: Place,
-    whole: bool,
+    command: usize,
     classes: &[u8],
     marks: &[u8],
-    pairs: &[i16],
+    scores: &[i16],
     weights: &[i32],
-    jis: &[u32],
+    index: &[u32],
 ) -> bool {
-    let close = next_byte() == 1;
+    let close = input::byte() == 1;
     let mut size = [0u8; 4];
     if io::read_full(STDIN_FILENO, &mut size) != 4 {
         return false;
@@ -156,46 +193,141 @@ fn read_stream(
     if 65536 < n {
         return false;
     }
-    read_bytes(
+    let len = n as usize;
+    if len < 256 {
+        return read_short(
+            start,
+            command,
+            len,
+            close,
+            classes,
+            marks,
+            scores,
+            weights,
+            index,
+        );
+    }
+    read_long(
         start,
-        whole,
-        n as usize,
+        command,
+        len,
         close,
         classes,
         marks,
-        pairs,
+        scores,
         weights,
-        jis,
+        index,
     )
 }
 
-// One case: its record, and what the command adds. The place's tables are the k-th of each array.
+// One case: its record, and what the command adds.
 fn case(
     command: usize,
     place: u8,
-    k: usize,
     classes: &[u8],
     marks: &[u8],
-    pairs: &[i16],
+    scores: &[i16],
     weights: &[i32],
-    jis: &[u32],
-) -> bool
-    requires { ⌜ k < 4 ⌝ }
-    requires { ⌜ (length (now classes) ≡ 1024) × ((length (now marks) ≡ 512) × (length (now pairs) ≡ 65536)) ⌝ }
-{
+    index: &[u32],
+) -> bool {
     let mut bytes = [0u8; 40];
     if io::read_full(STDIN_FILENO, &mut bytes) != 40 {
         return false;
     }
     let start = record::place_of(place, &bytes);
-    let c = &classes[256 * k..256 * k + 256];
-    let m = &marks[128 * k..128 * k + 128];
-    let p = &pairs[16384 * k..16384 * k + 16384];
     if command == 0x41 {
-        all_pairs(start, c, m, p, weights, jis).print();
+        all_pairs(start, classes, marks, scores, weights, index).print();
         return true;
     }
-    read_stream(start, command == 0x52, c, m, p, weights, jis)
+    read_stream(start, command, classes, marks, scores, weights, index)
+}
+
+// A case of the k-th single-byte place, whose tables are the k-th of each array.
+fn single_case(
+    command: usize,
+    k: usize,
+    classes: &[u8],
+    marks: &[u8],
+    scores: &[i16],
+    weights: &[i32],
+    indexes: &[u32],
+) -> bool
+    requires { ⌜ k < 4 ⌝ }
+    requires { ⌜ (length (now classes) ≡ 1024) × ((length (now marks) ≡ 512) × (length (now scores) ≡ 76708)) ⌝ }
+{
+    let c = &classes[256 * k..256 * k + 256];
+    let m = &marks[128 * k..128 * k + 128];
+    let s = &scores[16384 * k..16384 * k + 16384];
+    case(command, (k + 4) as u8, c, m, s, weights, indexes)
+}
+
+// A case of a place that decodes, over its own index.
+fn decoder_case(
+    command: usize,
+    place: usize,
+    classes: &[u8],
+    marks: &[u8],
+    scores: &[i16],
+    weights: &[i32],
+    indexes: &[u32],
+) -> bool
+    requires { ⌜ (length (now scores) ≡ 76708) × (length (now indexes) ≡ 52558) ⌝ }
+{
+    if place == 2 {
+        let extras = &scores[65536..];
+        return case(
+            command,
+            2,
+            classes,
+            marks,
+            extras,
+            weights,
+            &indexes[19782..43722],
+        );
+    }
+    if place == 3 {
+        return case(
+            command,
+            3,
+            classes,
+            marks,
+            scores,
+            weights,
+            &indexes[0..19782],
+        );
+    }
+    let number = if place == 0 { 0 } else { 1 };
+    case(
+        command,
+        number,
+        classes,
+        marks,
+        scores,
+        weights,
+        &indexes[43722..],
+    )
+}
+
+// Prints a name, which a line follows.
+fn name() -> bool {
+    let len = input::byte();
+    let mut bytes = [0u8; 256];
+    if 255 < len {
+        return false;
+    }
+    if input::part(&mut bytes, len) < len {
+        return false;
+    }
+    io::write_all(STDOUT_FILENO, &bytes[0..len]);
+    io::write_all(STDOUT_FILENO, b": ");
+    true
+}
+
+fn is_case(command: usize) -> bool {
+    match command {
+        0x41 | 0x4C | 0x4D | 0x52 => true,
+        _ => false,
+    }
 }
 
 // What follows a command. Answers whether it was well formed.
@@ -203,55 +335,47 @@ fn turn(
     command: usize,
     classes: &[u8],
     marks: &[u8],
-    pairs: &[i16],
+    scores: &[i16],
     weights: &[i32],
-    jis: &[u32],
+    indexes: &[u32],
 ) -> bool
-    requires { ⌜ (length (now classes) ≡ 1024) × ((length (now marks) ≡ 512) × (length (now pairs) ≡ 65536)) ⌝ }
+    requires { ⌜ (length (now classes) ≡ 1024) × ((length (now marks) ≡ 512) × ((length (now scores) ≡ 76708) × (length (now indexes) ≡ 52558))) ⌝ }
 {
-    if command != 0x41 {
-        if command != 0x4D {
-            if command != 0x52 {
-                return false;
-            }
+    if command == 0x4E {
+        return name();
+    }
+    if !is_case(command) {
+        return false;
+    }
+    let place = input::byte();
+    if command == 0x4C {
+        if !sheet::head(place) {
+            return false;
         }
     }
-    let place = next_byte();
-    if place < 2 {
-        return case(command, place as u8, 0, classes, marks, pairs, weights, jis);
-    }
     if place < 4 {
-        return false;
+        return decoder_case(command, place, classes, marks, scores, weights, indexes);
     }
     if 7 < place {
         return false;
     }
-    case(
-        command,
-        place as u8,
-        place - 4,
-        classes,
-        marks,
-        pairs,
-        weights,
-        jis,
-    )
+    single_case(command, place - 4, classes, marks, scores, weights, indexes)
 }
 
 // The cases until the end of the input or new lent data; answers whether that follows.
-fn cases(classes: &[u8], marks: &[u8], pairs: &[i16], weights: &[i32], jis: &[u32]) -> bool
-    requires { ⌜ (length (now classes) ≡ 1024) × ((length (now marks) ≡ 512) × (length (now pairs) ≡ 65536)) ⌝ }
+fn cases(classes: &[u8], marks: &[u8], scores: &[i16], weights: &[i32], indexes: &[u32]) -> bool
+    requires { ⌜ (length (now classes) ≡ 1024) × ((length (now marks) ≡ 512) × ((length (now scores) ≡ 76708) × (length (now indexes) ≡ 52558))) ⌝ }
 {
     let mut count: usize = 0;
     while count < 10000000 {
-        let command = next_byte();
+        let command = input::byte();
         if command == 256 {
             return false;
         }
         if command == 0x54 {
             return true;
         }
-        if !turn(command, classes, marks, pairs, weights, jis) {
+        if !turn(command, classes, marks, scores, weights, indexes) {
             io::write_all(STDOUT_FILENO, b"bad input\n");
             return false;
         }
@@ -264,14 +388,20 @@ fn cases(classes: &[u8], marks: &[u8], pairs: &[i16], weights: &[i32], jis: &[u3
 fn block() -> bool {
     let mut classes = [0u8; 1024];
     let mut marks = [0u8; 512];
-    let mut pairs = [0i16; 65536];
+    let mut scores = [0i16; 76708];
     let mut weights = [0i32; 17];
-    let mut jis = [0u32; 8836];
-    if !tables::read_all(&mut classes, &mut marks, &mut pairs, &mut weights, &mut jis) {
+    let mut indexes = [0u32; 52558];
+    if !tables::read_all(
+        &mut classes,
+        &mut marks,
+        &mut scores,
+        &mut weights,
+        &mut indexes,
+    ) {
         io::write_all(STDOUT_FILENO, b"bad input\n");
         return false;
     }
-    cases(&classes, &marks, &pairs, &weights, &jis)
+    cases(&classes, &marks, &scores, &weights, &indexes)
 }
 
 fn main() {

@@ -3,15 +3,20 @@ use crate::digest::Digest;
 use crate::number;
 use crate::place::Machine;
 use crate::place::Place;
+use arabic_french::ArabicFrench;
+use arabic_french::LatinCaseState;
+use big5::Big5;
+use big5::LatinCj;
+use caseless::Caseless;
+use euckr::EucKr;
+use euckr::LatinKorean;
 use iso2022jp::DecoderState;
 use iso2022jp::Iso2022Jp;
 use iso2022jp::OutputState;
-use single::arabic_french::ArabicFrench;
-use single::arabic_french::LatinCaseState;
-use single::caseless::Caseless;
-use single::logical::Logical;
-use single::visual::Visual;
+use logical::Logical;
+use pairs::Held;
 use utf8::Utf8;
+use visual::Visual;
 
 // The fields that are laid out alike for every place.
 struct Fields {
@@ -19,6 +24,7 @@ struct Fields {
     b: u8,
     c: u8,
     d: u8,
+    e: u8,
     x: u64,
     y: u64,
     z: u64,
@@ -34,6 +40,15 @@ fn case_number(c: LatinCaseState) -> u8 {
         LatinCaseState::Upper => 1,
         LatinCaseState::Lower => 2,
         LatinCaseState::AllCaps => 3,
+    }
+}
+
+fn case_of(n: u8) -> LatinCaseState {
+    match n {
+        1 => LatinCaseState::Upper,
+        2 => LatinCaseState::Lower,
+        3 => LatinCaseState::AllCaps,
+        _ => LatinCaseState::Space,
     }
 }
 
@@ -79,155 +94,278 @@ fn out_of(n: u8) -> OutputState {
     }
 }
 
-fn case_of(n: u8) -> LatinCaseState {
-    if n == 1 {
-        return LatinCaseState::Upper;
+fn korean_number(k: LatinKorean) -> u8 {
+    match k {
+        LatinKorean::AsciiLetter => 0,
+        LatinKorean::Hangul => 1,
+        LatinKorean::Hanja => 2,
+        LatinKorean::Other => 3,
     }
-    if n == 2 {
-        return LatinCaseState::Lower;
+}
+
+fn korean_of(n: u8) -> LatinKorean {
+    match n {
+        0 => LatinKorean::AsciiLetter,
+        1 => LatinKorean::Hangul,
+        2 => LatinKorean::Hanja,
+        _ => LatinKorean::Other,
     }
-    if n == 3 {
-        return LatinCaseState::AllCaps;
+}
+
+fn cj_number(k: LatinCj) -> u8 {
+    match k {
+        LatinCj::AsciiLetter => 0,
+        LatinCj::Cj => 1,
+        LatinCj::Other => 2,
     }
-    LatinCaseState::Space
+}
+
+fn cj_of(n: u8) -> LatinCj {
+    match n {
+        0 => LatinCj::AsciiLetter,
+        1 => LatinCj::Cj,
+        _ => LatinCj::Other,
+    }
+}
+
+fn is_held(h: Held) -> u8 {
+    match h {
+        Held::Nothing => 0,
+        Held::Score(s) => 1,
+    }
+}
+
+fn held_bits(h: Held) -> u64 {
+    match h {
+        Held::Nothing => 0,
+        Held::Score(s) => signed::bits(s),
+    }
+}
+
+fn held_of(f: Fields) -> Held {
+    if f.e == 1 {
+        return Held::Score(signed::of_bits64(f.z));
+    }
+    Held::Nothing
+}
+
+// ---- from a machine to the fields
+fn laid(a: u8, b: u8, c: u8, d: u8, e: u8, x: u64, y: u64, z: u64) -> Fields {
+    Fields {
+        a,
+        b,
+        c,
+        d,
+        e,
+        x,
+        y,
+        z,
+    }
+}
+
+fn iso2022jp_fields(m: Iso2022Jp) -> Fields {
+    let state = m.state;
+    let out = m.out;
+    laid(
+        state_number(state),
+        out_number(out),
+        m.lead,
+        flag(m.output),
+        0,
+        0,
+        0,
+        0,
+    )
+}
+
+fn euckr_fields(m: EucKr) -> Fields {
+    let prev = m.prev;
+    let held = m.held;
+    laid(
+        m.lead,
+        m.prev_byte,
+        flag(m.prev_was_euc_range),
+        korean_number(prev),
+        is_held(held),
+        m.current_word_len,
+        0,
+        held_bits(held),
+    )
+}
+
+fn big5_fields(m: Big5) -> Fields {
+    let prev = m.prev;
+    let held = m.held;
+    laid(
+        m.lead,
+        m.prev_byte,
+        0,
+        cj_number(prev),
+        is_held(held),
+        0,
+        0,
+        held_bits(held),
+    )
+}
+
+// A single-byte machine's: its previous class, whether that was ASCII, field c, its words, field z.
+fn single_fields(prev: u8, ascii: bool, c: u8, word: u64, longest: u64, z: u64) -> Fields {
+    laid(prev, flag(ascii), c, 0, 0, word, longest, z)
+}
+
+fn caseless_fields(m: Caseless) -> Fields {
+    single_fields(
+        m.prev,
+        m.prev_ascii,
+        0,
+        m.current_word_len,
+        m.longest_word,
+        0,
+    )
+}
+
+fn logical_fields(m: Logical) -> Fields {
+    single_fields(
+        m.prev,
+        m.prev_ascii,
+        0,
+        m.current_word_len,
+        m.longest_word,
+        m.plausible_punctuation,
+    )
+}
+
+fn visual_fields(m: Visual) -> Fields {
+    single_fields(
+        m.prev,
+        m.prev_ascii,
+        flag(m.prev_punctuation),
+        m.current_word_len,
+        m.longest_word,
+        m.plausible_punctuation,
+    )
+}
+
+fn arabic_french_fields(m: ArabicFrench) -> Fields {
+    let case_state = m.case_state;
+    single_fields(
+        m.prev,
+        m.prev_ascii,
+        case_number(case_state),
+        m.current_word_len,
+        m.longest_word,
+        0,
+    )
 }
 
 fn fields_of(m: Machine) -> Fields {
     match m {
-        Machine::Utf8(m) => Fields {
-            a: m.need,
-            b: m.lo,
-            c: m.hi,
-            d: 0,
-            x: 0,
-            y: 0,
-            z: 0,
-        },
-        Machine::Iso2022Jp(m) => {
-            let state = m.state;
-            let out = m.out;
-            Fields {
-                a: state_number(state),
-                b: out_number(out),
-                c: m.lead,
-                d: flag(m.output),
-                x: 0,
-                y: 0,
-                z: 0,
-            }
-        }
-        Machine::Caseless(m) => Fields {
-            a: m.prev,
-            b: flag(m.prev_ascii),
-            c: 0,
-            d: 0,
-            x: m.current_word_len,
-            y: m.longest_word,
-            z: 0,
-        },
-        Machine::Logical(m) => Fields {
-            a: m.prev,
-            b: flag(m.prev_ascii),
-            c: 0,
-            d: 0,
-            x: m.current_word_len,
-            y: m.longest_word,
-            z: m.plausible_punctuation,
-        },
-        Machine::Visual(m) => Fields {
-            a: m.prev,
-            b: flag(m.prev_ascii),
-            c: flag(m.prev_punctuation),
-            d: 0,
-            x: m.current_word_len,
-            y: m.longest_word,
-            z: m.plausible_punctuation,
-        },
-        Machine::ArabicFrench(m) => {
-            let case_state = m.case_state;
-            Fields {
-                a: m.prev,
-                b: flag(m.prev_ascii),
-                c: case_number(case_state),
-                d: 0,
-                x: m.current_word_len,
-                y: m.longest_word,
-                z: 0,
-            }
-        }
+        Machine::Utf8(m) => laid(m.need, m.lo, m.hi, 0, 0, 0, 0, 0),
+        Machine::Iso2022Jp(m) => iso2022jp_fields(m),
+        Machine::EucKr(m) => euckr_fields(m),
+        Machine::Big5(m) => big5_fields(m),
+        Machine::Caseless(m) => caseless_fields(m),
+        Machine::Logical(m) => logical_fields(m),
+        Machine::Visual(m) => visual_fields(m),
+        Machine::ArabicFrench(m) => arabic_french_fields(m),
     }
 }
 
-// The digest with a record's 40 bytes.
-pub(crate) fn add(d: Digest, p: Place) -> Digest {
-    let Place::Live(machine, score) = p else {
-        return d.with_number(0)
-            .with_number(0)
-            .with_number(0)
-            .with_number(0)
-            .with_number(0);
-    };
+// The digest with 40 bytes, each eight of them this number.
+fn filled(d: Digest, n: u64) -> Digest {
+    d.with_number(n)
+        .with_number(n)
+        .with_number(n)
+        .with_number(n)
+        .with_number(n)
+}
+
+fn live(d: Digest, machine: Machine, score: i64) -> Digest {
     let f = fields_of(machine);
     let head = d.with_byte(1).with_byte(f.a).with_byte(f.b).with_byte(f.c);
-    let named = head.with_byte(f.d).with_byte(0).with_byte(0).with_byte(0);
+    let named = head.with_byte(f.d).with_byte(f.e).with_byte(0).with_byte(0);
     let scored = named.with_number(signed::bits(score));
     scored.with_number(f.x).with_number(f.y).with_number(f.z)
 }
 
-fn machine_of(place: u8, f: Fields) -> Machine {
-    if place == 0 {
-        return Machine::Utf8(Utf8 {
+// The digest with a record's 40 bytes.
+pub(crate) fn add(d: Digest, p: Place) -> Digest {
+    match p {
+        Place::Live(machine, score) => live(d, machine, score),
+        Place::None => filled(d, 0),
+        Place::Unfit => filled(d, 0xFFFF_FFFF_FFFF_FFFF),
+    }
+}
+
+// ---- from the fields to a machine
+fn decoder_of(place: u8, f: Fields) -> Machine {
+    match place {
+        0 => Machine::Utf8(Utf8 {
             need: f.a,
             lo: f.b,
             hi: f.c,
-        });
-    }
-    if place == 1 {
-        return Machine::Iso2022Jp(Iso2022Jp {
+        }),
+        1 => Machine::Iso2022Jp(Iso2022Jp {
             state: state_of(f.a),
             out: out_of(f.b),
             lead: f.c,
             output: f.d == 1,
-        });
+        }),
+        2 => Machine::EucKr(EucKr {
+            lead: f.a,
+            prev_byte: f.b,
+            prev_was_euc_range: f.c == 1,
+            prev: korean_of(f.d),
+            current_word_len: f.x,
+            held: held_of(f),
+        }),
+        _ => Machine::Big5(Big5 {
+            lead: f.a,
+            prev: cj_of(f.d),
+            prev_byte: f.b,
+            held: held_of(f),
+        }),
     }
-    single_of(place, f)
 }
 
 fn single_of(place: u8, f: Fields) -> Machine {
-    if place == 4 {
-        return Machine::Caseless(Caseless {
+    match place {
+        4 => Machine::Caseless(Caseless {
             prev: f.a,
             prev_ascii: f.b == 1,
             current_word_len: f.x,
             longest_word: f.y,
-        });
-    }
-    if place == 5 {
-        return Machine::Logical(Logical {
+        }),
+        5 => Machine::Logical(Logical {
             prev: f.a,
             prev_ascii: f.b == 1,
             plausible_punctuation: f.z,
             current_word_len: f.x,
             longest_word: f.y,
-        });
-    }
-    if place == 6 {
-        return Machine::Visual(Visual {
+        }),
+        6 => Machine::Visual(Visual {
             prev: f.a,
             prev_ascii: f.b == 1,
             prev_punctuation: f.c == 1,
             plausible_punctuation: f.z,
             current_word_len: f.x,
             longest_word: f.y,
-        });
+        }),
+        _ => Machine::ArabicFrench(ArabicFrench {
+            prev: f.a,
+            case_state: case_of(f.c),
+            prev_ascii: f.b == 1,
+            current_word_len: f.x,
+            longest_word: f.y,
+        }),
     }
-    Machine::ArabicFrench(ArabicFrench {
-        prev: f.a,
-        case_state: case_of(f.c),
-        prev_ascii: f.b == 1,
-        current_word_len: f.x,
-        longest_word: f.y,
-    })
+}
+
+fn machine_of(place: u8, f: Fields) -> Machine {
+    if place < 4 {
+        return decoder_of(place, f);
+    }
+    single_of(place, f)
 }
 
 // The place that a case's 40 bytes stand for.
@@ -240,6 +378,7 @@ pub(crate) fn place_of(place: u8, bytes: &[u8]) -> Place {
         b: number::byte(bytes, 2),
         c: number::byte(bytes, 3),
         d: number::byte(bytes, 4),
+        e: number::byte(bytes, 5),
         x: number::eight(bytes, 16),
         y: number::eight(bytes, 24),
         z: number::eight(bytes, 32),

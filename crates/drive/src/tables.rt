@@ -2,77 +2,79 @@
 ghost use Prim.Native.Nat.{_+_, _*_, _<_, _≤_};
 ghost use lib.ListN.{length};
 ghost use mathlib.Core.Path.{_≡_};
+use crate::input;
 use crate::number;
 use libc::STDIN_FILENO;
 
-// The tables of the four places, one after the other in each array.
+// The tables of the four single-byte places, one after the other in each array; after their pair scores the Hangul extras;
+// the Big5, EUC-KR and JIS X 0208 indexes in one array, as they come.
 pub(crate) fn read_all(
     classes: &mut [u8],
     marks: &mut [u8],
-    pairs: &mut [i16],
+    scores: &mut [i16],
     weights: &mut [i32],
-    jis: &mut [u32],
+    indexes: &mut [u32],
 ) -> bool
-    requires { ⌜ (length (now classes) ≡ 1024) × ((length (now marks) ≡ 512) × (length (now pairs) ≡ 65536)) ⌝ }
+    requires { ⌜ (length (now classes) ≡ 1024) × ((length (now marks) ≡ 512) × (length (now scores) ≡ 76708)) ⌝ }
 {
-    if !read_place(0, classes, marks, pairs) {
+    if !read_places(classes, marks, scores) {
         return false;
     }
-    if !read_place(1, classes, marks, pairs) {
+    read_rest(scores, weights, indexes)
+}
+
+fn read_places(classes: &mut [u8], marks: &mut [u8], scores: &mut [i16]) -> bool
+    requires { ⌜ (length (now classes) ≡ 1024) × ((length (now marks) ≡ 512) × (length (now scores) ≡ 76708)) ⌝ }
+{
+    if !read_place(0, classes, marks, scores) {
         return false;
     }
-    if !read_place(2, classes, marks, pairs) {
+    if !read_place(1, classes, marks, scores) {
         return false;
     }
-    if !read_place(3, classes, marks, pairs) {
+    if !read_place(2, classes, marks, scores) {
         return false;
     }
-    read_rest(weights, jis)
+    read_place(3, classes, marks, scores)
 }
 
 // What follows the four places' tables.
-fn read_rest(weights: &mut [i32], jis: &mut [u32]) -> bool {
-    if !skip(24) {
+fn read_rest(scores: &mut [i16], weights: &mut [i32], indexes: &mut [u32]) -> bool
+    requires { ⌜ length (now scores) ≡ 76708 ⌝ }
+{
+    if !read_indexes(indexes) {
         return false;
     }
-    if !read_jis(jis) {
-        return false;
-    }
-    if !skip_extras() {
+    if !read_halves(22344, &mut scores[65536..]) {
         return false;
     }
     read_weights(weights)
 }
 
-fn read_place(k: usize, classes: &mut [u8], marks: &mut [u8], pairs: &mut [i16]) -> bool
+// A place's tables go to its part of each array.
+fn read_place(k: usize, classes: &mut [u8], marks: &mut [u8], scores: &mut [i16]) -> bool
     requires { ⌜ k < 4 ⌝ }
-    requires { ⌜ (length (now classes) ≡ 1024) × ((length (now marks) ≡ 512) × (length (now pairs) ≡ 65536)) ⌝ }
+    requires { ⌜ (length (now classes) ≡ 1024) × ((length (now marks) ≡ 512) × (length (now scores) ≡ 76708)) ⌝ }
 {
-    let mut bytes = [0u8; 33152];
-    let n = io::read_full(STDIN_FILENO, &mut bytes);
-    fill(&bytes[..n], k, classes, marks, pairs)
-}
-
-// A place's bytes go to its part of each array.
-fn fill(bytes: &[u8], k: usize, classes: &mut [u8], marks: &mut [u8], pairs: &mut [i16]) -> bool
-    requires { ⌜ k < 4 ⌝ }
-    requires { ⌜ (length (now classes) ≡ 1024) × ((length (now marks) ≡ 512) × (length (now pairs) ≡ 65536)) ⌝ }
-{
-    if bytes.len() != 33152 {
+    if io::read_full(STDIN_FILENO, &mut classes[256 * k..256 * k + 256]) != 256 {
         return false;
     }
-    copy(&bytes[..256], &mut classes[256 * k..256 * k + 256]);
-    copy(&bytes[256..384], &mut marks[128 * k..128 * k + 128]);
-    halves(&bytes[384..], &mut pairs[16384 * k..16384 * k + 16384]);
-    true
+    if io::read_full(STDIN_FILENO, &mut marks[128 * k..128 * k + 128]) != 128 {
+        return false;
+    }
+    read_halves(32768, &mut scores[16384 * k..16384 * k + 16384])
 }
 
-fn copy(from: &[u8], to: &mut [u8]) {
-    let mut i = 0;
-    while i < to.len() {
-        to[i] = number::byte(from, i);
-        i += 1;
+// As many numbers of 16 bits as there is room for, which take that many bytes.
+fn read_halves(len: usize, to: &mut [i16]) -> bool
+    requires { ⌜ len ≤ 32768 ⌝ }
+{
+    let mut bytes = [0u8; 32768];
+    if input::part(&mut bytes, len) < len {
+        return false;
     }
+    halves(&bytes, to);
+    true
 }
 
 fn halves(from: &[u8], to: &mut [i16]) {
@@ -102,37 +104,13 @@ fn read_weights(weights: &mut [i32]) -> bool {
     true
 }
 
-// Passes over 7,287 bytes.
-fn skip_piece() -> bool {
-    let mut bytes = [0u8; 7287];
-    io::read_full(STDIN_FILENO, &mut bytes) == 7287
-}
-
-// Passes over that many pieces; the Big5 and the EUC-KR index are 24.
-fn skip(pieces: usize) -> bool {
-    let mut i: usize = 0;
-    while i < pieces {
-        if !skip_piece() {
-            return false;
-        }
-        i += 1;
-    }
-    true
-}
-
-// Passes over the Hangul extras.
-fn skip_extras() -> bool {
-    let mut bytes = [0u8; 22344];
-    io::read_full(STDIN_FILENO, &mut bytes) == 22344
-}
-
-fn read_jis(jis: &mut [u32]) -> bool {
-    let mut bytes = [0u8; 35344];
+fn read_indexes(indexes: &mut [u32]) -> bool {
+    let mut bytes = [0u8; 210232];
     let n = io::read_full(STDIN_FILENO, &mut bytes);
-    if n != 35344 {
+    if n != 210232 {
         return false;
     }
-    words(&bytes[..n], jis);
+    words(&bytes[..n], indexes);
     true
 }
 

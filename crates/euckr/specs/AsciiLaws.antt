@@ -16,7 +16,7 @@ use Rattle.pairs.specs.Ranges.{below}
 use Rattle.pairs.specs.Sequences.{first-ascii}
 use Rattle.pairs.specs.declared.Event.the-variants.{Point}
 use Rattle.pairs.specs.declared.Held.the-variants.{Nothing}
-use Rattle.euckr.specs.Standard.{decodeOf}
+use Rattle.euckr_decoder.specs.Standard.{decodeOf}
 use Rattle.euckr.specs.Scoring.{isEuc, isHangul, isHanja, letterAfter, letterOf, scored, unitOf, freshOf, Lent, stepOf}
 use Rattle.euckr.specs.Scoring as scoring
 use Rattle.euckr.specs.Ways.{step-on}

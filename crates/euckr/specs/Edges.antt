@@ -5,20 +5,21 @@ use mathlib.Core.List.{List, [], _∷_}
 use Prim.Native.Nat.{ℕ, zero, suc, _+_}
 use native.Mathlib.Omega.{arith}
 use lib.Dec.{ltb}
-use borrow.Author.Tests.{ne-eqb}
+use borrow.Author.Tests.{ne-eqb, le-ltb}
 use lib.IntN.{ℤ, pos, _+ℤ_, +ℤ-idl, +ℤ-idr, +ℤ-assoc, +ℤ-comm}
 use lib.ListN.{getD}
 use Rattle.laws.specs.Run.{Out, live, plus, plus-plus, feed, run, run-plus}
+use Rattle.octets.specs.Octets.{between}
 use Rattle.pairs.specs.Pairs.{isLead, decoded, firstOf}
 use Rattle.pairs.specs.PairsLaws.{lead-bounds}
-use Rattle.pairs.specs.Ranges.{inside, above}
+use Rattle.pairs.specs.Ranges.{inside, below, above}
 use Rattle.pairs.specs.Sequences.{first-lead}
 use Rattle.pairs.specs.declared.Event.the-variants.{Pending, Point}
 use Rattle.pairs.specs.declared.Held.{Held}
 use Rattle.pairs.specs.declared.Held.the-variants.{Nothing, Score}
-use Rattle.euckr.specs.Standard.{isTrail, pointerOf, isMapped, decodeOf}
-use Rattle.euckr.specs.StandardLaws.{is-mapped}
-use Rattle.euckr.specs.Scoring.{extraOf, isEuc, isHangul, hangulAfter, longOf, scored, holdsOf, aroundOf, innerOf, outerOf, hangulOf, unitOf, extensionOf, after, strayOf, errorOf, freshOf, Lent, lent, stepOf}
+use Rattle.euckr_decoder.specs.Standard.{isTrail, pointerOf, isMapped, decodeOf}
+use Rattle.euckr_decoder.specs.StandardLaws.{is-mapped}
+use Rattle.euckr.specs.Scoring.{extraOf, isEuc, isHangul, hangulAfter, longOf, scored, holdsOf, aroundOf, innerOf, outerOf, hangulOf, otherOf, unitOf, extensionOf, after, strayOf, errorOf, freshOf, Lent, lent, stepOf}
 use Rattle.pairs.specs.Ranges.{range-true}
 use Rattle.euckr.specs.Ways.{step-on}
 use Rattle.euckr.specs.declared.EucKr.{EucKr}
@@ -124,6 +125,13 @@ hangul-mapped u e = let h = range-true 0xAC00 0xD7A3 u e in rw (inside 0x80 0xD7
 abbrev waiting : EucKr → ℕ → EucKr
 waiting m lead = record { lead = lead; «prev_byte» = lead; «prev_was_euc_range» = isEuc lead; prev = m .prev; «current_word_len» = m .«current_word_len»; held = m .held }
 
+-- what a mapped pair decodes to
+pair-point : (t : Lent) (lead b : ℕ) → isLead lead ≡ true → isTrail b ≡ true → isMapped (getD (t .index) (pointerOf lead b) 0) ≡ true → decoded 0 (Point (getD (t .index) (pointerOf lead b) 0)) ≡ decodeOf (t .index) lead b
+unfolding decodeOf
+pair-point t lead b l r e =
+    let h = lead-bounds lead l in
+    rw (ne-eqb lead 0 (λ z. omega arith), is-mapped (t .index) lead b r e)
+
 module _ (t : Lent) where
   lead-decoded : (lead x : ℕ) → x ≡ 0 → isLead lead ≡ true → decoded lead Pending ≡ decodeOf (t .index) x lead
   unfolding decodeOf
@@ -137,10 +145,7 @@ module _ (t : Lent) where
     unit = getD (t .index) (pointerOf lead b) 0
 
     pair-decoded : decoded 0 (Point unit) ≡ decodeOf (t .index) lead b
-    unfolding decodeOf
-    pair-decoded =
-        let h = lead-bounds lead (pair .a-lead) in
-        rw (ne-eqb lead 0 (λ z. omega arith), is-mapped (t .index) lead b (pair .a-trail) (hangul-mapped unit (pair .a-hangul)))
+    pair-decoded = pair-point t lead b (pair .a-lead) (pair .a-trail) (hangul-mapped unit (pair .a-hangul))
 
     trail-step : (m : EucKr) → stepOf t (waiting m lead) b ≡ after 0 b (hangulOf (t .scale) (waiting m lead) (t .extras) unit b)
     trail-step m =
@@ -225,3 +230,30 @@ module _ (t : Lent) (bs : List ℕ) where
 pub after-81-ff : (t : Lent) (euc : Bool) (prev : LatinKorean) (word : ℕ) (held : Held) → stepOf t (record { lead = 0; «prev_byte» = 0x81; «prev_was_euc_range» = euc; prev = prev; «current_word_len» = word; held = held }) 0xFF ≡ live (record { lead = 0; «prev_byte» = 0xFF; «prev_was_euc_range» = false; prev = Other; «current_word_len» = 0; held = Nothing }) (t .scale .extension +ℤ t .scale .extension)
 unfolding stepOf decodeOf firstOf errorOf strayOf extensionOf
 after-81-ff t euc prev word held = refl
+
+-- ---- the house plan's lines
+hangul-outside : (w : Scale) (m : EucKr) (extras : List ℤ) (u b : ℕ) → m .«prev_was_euc_range» ≡ false → hangulOf w m extras u b ≡ outerOf w m
+unfolding hangulOf
+hangul-outside w m extras u b f = rw f
+
+-- a lead (B0) whose range flag is false, then a byte (A1) that makes a Hangul with it: it scores as one outside the EUC range
+pub flag-false : (t : Lent) (m : EucKr) (lead b : ℕ) → m .lead ≡ lead → m .«prev_was_euc_range» ≡ false → HangulPair (t .index) lead b → stepOf t m b ≡ after 0 b (outerOf (t .scale) m)
+flag-false t m lead b z f pair =
+    let u = getD (t .index) (pointerOf lead b) 0 in
+    sym (step-on t m b (decoded 0 (Point u)) (pair-decoded t lead b pair ∙ ap (λ (k : ℕ). decodeOf (t .index) k b) (sym z)) (Point u) refl)
+    ∙ ap (after 0 b) (unit-hangul (t .scale) (t .extras) m u b (pair .a-hangul) ∙ hangul-outside (t .scale) m (t .extras) u b f)
+
+unit-private : (w : Scale) (extras : List ℤ) (m : EucKr) (u b : ℕ) → between 0xE000 0xF8FF u ≡ true → unitOf w extras m u b ≡ otherOf m (w .other)
+unfolding unitOf
+unit-private w extras m u b e =
+    let h = range-true 0xE000 0xF8FF u e in
+    rw (above 0x61 0x7A u (omega arith), above 0x41 0x5A u (omega arith), above 0xAC00 0xD7A3 u (omega arith), above 0x4E00 0xABFF u (omega arith), below 0xF900 0xFA0B u (omega arith), le-ltb u 0x80 (omega arith))
+
+private-mapped : (u : ℕ) → between 0xE000 0xF8FF u ≡ true → isMapped u ≡ true
+private-mapped u e = let h = range-true 0xE000 0xF8FF u e in rw (above 0x80 0xD7FF u (omega arith), inside 0xE000 0xFFFF u (omega arith) (omega arith))
+
+-- a pair that the index maps to private use scores as other; the private-use weight is for unmapped pairs
+pub private-use : (t : Lent) (m : EucKr) (b : ℕ) → isLead (m .lead) ≡ true → isTrail b ≡ true → between 0xE000 0xF8FF (getD (t .index) (pointerOf (m .lead) b) 0) ≡ true → stepOf t m b ≡ after 0 b (otherOf m (t .scale .other))
+private-use t m b l r e =
+    let u = getD (t .index) (pointerOf (m .lead) b) 0 in
+    sym (step-on t m b (decoded 0 (Point u)) (pair-point t (m .lead) b l r (private-mapped u e)) (Point u) refl) ∙ ap (after 0 b) (unit-private (t .scale) (t .extras) m u b e)

@@ -10,7 +10,7 @@ use Rattle.laws.specs.Run.{Out, none, live, run}
 use Rattle.pairs.specs.Pairs.{isLeadOrNone, releasedOf, smallHeldB}
 use Rattle.laws.specs.Limit.{limit, room}
 use Rattle.weights.specs.Weights.{weightCount, term, perByte}
-use Rattle.euckr.specs.Standard.{entries}
+use Rattle.euckr_decoder.specs.Standard.{entries}
 use Rattle.euckr.specs.Scoring.{extraCount, lent, scaleOf, stepOf}
 use Rattle.euckr.specs.declared.EucKr.{EucKr}
 use Rattle.euckr.specs.declared.Scale.{Scale}
@@ -60,6 +60,12 @@ abbrev pub Bounded : ℕ → Ran → Type 0
 Bounded c (Live m s) = natAbs s ≤ c
 Bounded c Dropped = Unit {0}
 Bounded c Unfit = Unit {0}
+
+-- a live answer came of weights of 32 bits
+abbrev pub Weighed : List ℤ → Ran → Type 0
+Weighed weights (Live m s) = Small (scaleOf weights)
+Weighed weights Dropped = Unit {0}
+Weighed weights Unfit = Unit {0}
 
 -- ---- a run and a close
 abbrev pub lentB : List ℕ → List ℤ → List ℤ → Bool

@@ -19,14 +19,15 @@ use Rattle.pairs.specs.declared.Event.the-variants.{Pending, Point, Two, Error}
 use Rattle.pairs.specs.declared.Held.the-variants.{Nothing, Score}
 use Rattle.laws.specs.Limit.{limit, room}
 use Rattle.weights.specs.Weights.{weightCount, term, perByte}
-use Rattle.euckr.specs.Standard.{entries, pairOf, decodeOf}
+use Rattle.euckr_decoder.specs.Standard.{entries, pairOf, decodeOf}
 use Rattle.euckr.specs.Scoring.{scaleOf, extraCount, extraOf, isEuc, isHangul, isHanja, scored, holdsOf, letterOf, aroundOf, innerOf, outerOf, hangulOf, hanjaOf, otherOf, unitOf, isUserPair, isMacSymbol, isLone, extends, extensionOf, after, strayOf, errorOf, onEvent, Lent, lent, stepOf}
-use Rattle.euckr.specs.EucKr.{Sound, soundB, Small, Slight, ranAs, readyB, Ready, ranOf}
+use Rattle.euckr.specs.EucKr.{Sound, soundB, Small, Slight, ranAs, Weighed, readyB, Ready, ranOf}
 use Rattle.euckr.specs.Ways.{gain-pick, letter-small, hangul-small, hanja-small, other-small}
 use Rattle.euckr.specs.declared.EucKr.{EucKr}
 use Rattle.euckr.specs.declared.LatinKorean.{LatinKorean}
 use Rattle.euckr.specs.declared.LatinKorean.the-variants.{AsciiLetter, Hangul, Hanja, Other}
-use Rattle.euckr.specs.declared.Ran.the-variants.{Unfit}
+use Rattle.euckr.specs.declared.Ran.{Ran}
+use Rattle.euckr.specs.declared.Ran.the-variants.{Live, Dropped, Unfit}
 use Rattle.euckr.specs.declared.Scale.{Scale}
 use Rattle.euckr.specs.declared.Scored.{Scored}
 
@@ -202,6 +203,12 @@ step-within t small slight n m b s = sound-slight (n + 1) (stepOf t m b) (step-s
 -- the same of a step that was live
 pub turn-sound : (t : Lent) → Small (t .scale) → (n : ℕ) (m : EucKr) (b : ℕ) (next : EucKr) (g : ℤ) → Sound n m → stepOf t m b ≡ live next g → Sound (n + 1) next
 turn-sound t small n m b next g s e = rw e at (step-sound t small n m b s)
+
+-- ---- the weights that a run has read
+pub weighed : (weights : List ℤ) (r : Ran) → Small (scaleOf weights) → Weighed weights r
+weighed weights (Live m s) h = h
+weighed weights Dropped h = tt
+weighed weights Unfit h = tt
 
 -- ---- a run over two parts, one after the other
 pub run-joins : (t : Lent) (o : Out (Unit {0}) EucKr) (xs ys : List ℕ) → run (stepOf t) o (xs ++ ys) ≡ run (stepOf t) (run (stepOf t) o xs) ys

@@ -16,7 +16,7 @@ use Rattle.pairs.specs.Pairs.{isHeldLead}
 use Rattle.pairs.specs.declared.Event.{Event}
 use Rattle.pairs.specs.declared.Event.the-variants.{Pending, Point, Two, Error}
 use Rattle.pairs.specs.declared.Held.the-variants.{Nothing, Score}
-use Rattle.euckr.specs.Standard.{decodeOf}
+use Rattle.euckr_decoder.specs.Standard.{decodeOf}
 use Rattle.euckr.specs.Scoring.{extraOf, isEuc, isHangul, isHanja, isAfterHangul, scored, holdsOf, letterOf, aroundOf, innerOf, outerOf, hangulOf, hanjaOf, otherOf, unitOf, isUserPair, isMacSymbol, isLone, extends, extensionOf, after, strayOf, errorOf, onEvent, Lent, stepOf}
 use Rattle.euckr.specs.EucKr.{closeOf}
 use Rattle.euckr.specs.declared.EucKr.{EucKr}

@@ -13,7 +13,7 @@ use Rattle.pairs.specs.declared.Event.the-variants.{Pending, Point, Two, Error}
 use Rattle.pairs.specs.declared.Held.{Held}
 use Rattle.pairs.specs.declared.Held.the-variants.{Nothing, Score}
 use Rattle.weights.specs.Weights.{weightOf, cjkLatinAdjacency, cjkOther, eucHangul, nonEucHangul, hanja, hanjaAfterHangul, eucKrPua, macKorean, eucKrExtension, longWord}
-use Rattle.euckr.specs.Standard.{decodeOf}
+use Rattle.euckr_decoder.specs.Standard.{decodeOf}
 use Rattle.euckr.specs.declared.EucKr.{EucKr}
 use Rattle.euckr.specs.declared.LatinKorean.{LatinKorean}
 use Rattle.euckr.specs.declared.LatinKorean.the-variants.{AsciiLetter, Hangul, Hanja, Other}

@@ -7,19 +7,17 @@ use Prim.Native.Nat.{ℕ, _+_, _<_, _≤_}
 use native.Mathlib.Omega.{arith}
 use lib.Dec.{ltb, eqb}
 use lib.IntN.{ℤ, pos, natAbs, _+ℤ_}
-use lib.ListN.{getD}
 use borrow.Author.Tests.{eq-eqb, ne-eqb, lt-ltb, le-ltb}
 use mir.Syntax.{w64}
 use mir.Val.{SFits}
 use Rattle.laws.specs.Run.{none}
-use Rattle.pairs.specs.Pairs.{releasedOf, SmallHeld, malformedOf}
+use Rattle.pairs.specs.Pairs.{releasedOf, SmallHeld}
 use Rattle.pairs.specs.Sums.{kept, sum-small, sum-fits, sum-read, sum3-small, sum3-fits, sum3-read, sum4-small, sum4-fits, sum4-read}
 use Rattle.pairs.specs.declared.Decoded.{Decoded}
 use Rattle.pairs.specs.declared.Event.{Event}
-use Rattle.pairs.specs.declared.Event.the-variants.{Point}
 use Rattle.pairs.specs.declared.Held.the-variants.{Nothing, Score}
 use Rattle.weights.specs.Weights.{term, perByte}
-use Rattle.euckr.specs.Standard.{isTrail, pointerOf, isMapped, entryOf, pairOf, decodeOf}
+use Rattle.euckr_decoder.specs.Standard.{decodeOf}
 use Rattle.euckr.specs.Scoring.{extraOf, isEuc, hangulAfter, hanjaAfter, letterAfter, longOf, scored, holdsOf, letterOf, aroundOf, innerOf, outerOf, hangulOf, hanjaOf, otherOf, isExtension, isLone, extends, extensionOf, after, strayOf, onEvent, Lent, stepOf}
 use Rattle.euckr.specs.EucKr.{Small}
 use Rattle.euckr.specs.declared.EucKr.{EucKr}
@@ -141,21 +139,6 @@ module _ (w : Scale) (small : Small w) where
     pub letter-small : natAbs (letterOf w m .gain) ≤ perByte
     unfolding letterOf
     letter-small = omega (arith, letter-after-small (m .prev))
-
--- ---- pairs
-module _ (index : List ℕ) (lead b : ℕ) where
-  pub pair-mapped : (at : ℕ) → isTrail b ≡ true → at ≡ pointerOf lead b → isMapped (getD index at 0) ≡ true → Point (getD index at 0) ≡ pairOf index lead b
-  unfolding pairOf entryOf
-  pair-mapped at t p e =
-      let f : isMapped (getD index (pointerOf lead b) 0) ≡ true = ap (λ (k : ℕ). isMapped (getD index k 0)) (sym p) ∙ e in
-      rw (t, f) (ap (λ (k : ℕ). Point (getD index k 0)) p)
-
-  pub pair-none : (at : ℕ) → ((isTrail b ≡ true) × (at ≡ pointerOf lead b) × (isMapped (getD index at 0) ≡ false)) ⊎ (isTrail b ≡ false) → malformedOf b ≡ pairOf index lead b
-  unfolding pairOf entryOf
-  pair-none at (inl h) =
-      let f : isMapped (getD index (pointerOf lead b) 0) ≡ false = ap (λ (k : ℕ). isMapped (getD index k 0)) (sym (h .1)) ∙ h .2 in
-      rw (h .0, f)
-  pair-none at (inr h) = rw h
 
 -- ---- Hangul
 module _ (w : Scale) (m : EucKr) (extras : List ℤ) (u b : ℕ) where

@@ -1,4 +1,4 @@
-// EUC-KR: the Standard's decoder over a lent index, and the scoring machine over what it yields.
+// EUC-KR: the scoring machine over what the Standard's decoder yields.
 ghost use mathlib.Core.Path.{_≡_};
 ghost use mathlib.Core.Bool.{true};
 ghost use Prim.Native.Nat.{_*_, _≤_, _<_};
@@ -9,14 +9,12 @@ ghost use Rattle.pairs.specs.Pairs.{isLeadOrNone, SmallHeld};
 ghost use Rattle.pairs.specs.declared.Held.the-variants.{Nothing};
 ghost use Rattle.laws.specs.Limit.{limit, room};
 ghost use Rattle.weights.specs.Weights.{term, perByte, weightCount};
-ghost use Rattle.euckr.specs.Standard.{entries, isTrail, pointerOf, isMapped, pairOf, decodeOf, replyOf};
+ghost use Rattle.euckr_decoder.specs.Standard.{entries};
 ghost use Rattle.euckr.specs.Scoring.{scaleOf, extraCount, extraOf, isEuc, isHangul, isHanja, hangulAfter, hanjaAfter, letterAfter, longOf, holdsOf, scored, letterOf, aroundOf, innerOf, outerOf, hangulOf, hanjaOf, otherOf, unitOf, isUserPair, isMacLead, isMacSymbol, isExtension, isLone, extensionOf, after as afterOf, pendingOf, strayOf, errorOf, lent, freshOf, stepOf};
-ghost use Rattle.euckr.specs.EucKr.{Sound, soundB, Small, outOf, ranAs, Slight, Bounded, lentB, readyB, ranOf, closedOf};
+ghost use Rattle.euckr.specs.EucKr.{Sound, soundB, Small, outOf, ranAs, Slight, Bounded, Weighed, lentB, readyB, ranOf, closedOf};
 ghost use Rattle.euckr.specs.declared.LatinKorean.the-variants.{Other};
-use pairs::Decoded;
 use pairs::Event;
 use pairs::Held;
-use pairs::Reply;
 
 // The kind of what came before.
 pub enum LatinKorean {
@@ -71,79 +69,6 @@ struct Scored {
     gain: i64,
 }
 
-// ---- the decoder
-fn is_trail(b: u8) -> bool
-    ensures { λ r. ⌜ r ≡ isTrail b ⌝ }
-{
-    if b < 0x41 {
-        return false;
-    }
-    b < 0xFF
-}
-
-fn pointer(lead: u8, b: u8) -> usize
-    requires { ⌜ (0x81 ≤ lead) × (lead ≤ 0xFE) ⌝ }
-    requires { ⌜ isTrail b ≡ true ⌝ }
-    ensures { λ r. ⌜ r ≡ pointerOf lead b ⌝ }
-    ensures { λ r. ⌜ r < entries ⌝ }
-{
-    (lead - 0x81) as usize * 190 + (b - 0x41) as usize
-}
-
-fn is_mapped(entry: u32) -> bool
-    ensures { λ r. ⌜ r ≡ isMapped entry ⌝ }
-{
-    if entry < 0x80 {
-        return false;
-    }
-    if entry < 0xD800 {
-        return true;
-    }
-    if entry < 0xE000 {
-        return false;
-    }
-    entry < 0x10000
-}
-
-// A lead and the byte after it.
-fn pair(lead: u8, b: u8, index: &[u32]) -> Event
-    requires { ⌜ (0x81 ≤ lead) × (lead ≤ 0xFE) ⌝ }
-    requires { ⌜ length (now index) ≡ entries ⌝ }
-    ensures { λ r. ⌜ r ≡ pairOf (now (index .entry)) lead b ⌝ }
-{
-    if is_trail(b) {
-        let entry = index[pointer(lead, b)];
-        if is_mapped(entry) {
-            return Event::Point(entry);
-        }
-    }
-    pairs::malformed(b)
-}
-
-fn decode(lead: u8, b: u8, index: &[u32]) -> Decoded
-    requires { ⌜ isLeadOrNone lead ≡ true ⌝ }
-    requires { ⌜ length (now index) ≡ entries ⌝ }
-    ensures { λ r. ⌜ r ≡ decodeOf (now (index .entry)) lead b ⌝ }
-{
-    if lead == 0 {
-        return pairs::first(b);
-    }
-    let event = pair(lead, b, index);
-    Decoded { lead: 0, event }
-}
-
-// The decoder alone: a lead, or 0, and a byte, over an index of the right length.
-pub fn decoded(lead: u8, b: u8, index: &[u32]) -> Reply
-    ensures { λ r. ⌜ r ≡ replyOf (now (index .entry)) lead b ⌝ }
-{
-    if pairs::is_lead_or_none(lead) {
-        if index.len() == EucKr::INDEX {
-            return Reply::Byte(decode(lead, b, index));
-        }
-    }
-    Reply::Unfit
-}
-
 // ---- what the tests of a byte or a unit say
 fn is_euc(b: u8) -> bool
     ensures { λ r. ⌜ r ≡ isEuc b ⌝ }
@@ -194,16 +119,16 @@ impl Scale {
         ensures { λ r. ⌜ Small r ⌝ }
     {
         Scale {
-            adjacency: pairs::weight(weights, weights::CJK_LATIN_ADJACENCY),
-            other: pairs::weight(weights, weights::CJK_OTHER),
-            hangul: pairs::weight(weights, weights::EUC_HANGUL),
-            outer: pairs::weight(weights, weights::NON_EUC_HANGUL),
-            hanja: pairs::weight(weights, weights::HANJA),
-            mixed: pairs::weight(weights, weights::HANJA_AFTER_HANGUL),
-            pua: pairs::weight(weights, weights::EUC_KR_PUA),
-            mac: pairs::weight(weights, weights::MAC_KOREAN),
-            extension: pairs::weight(weights, weights::EUC_KR_EXTENSION),
-            long: pairs::weight(weights, weights::LONG_WORD),
+            adjacency: weights::weight(weights, weights::CJK_LATIN_ADJACENCY),
+            other: weights::weight(weights, weights::CJK_OTHER),
+            hangul: weights::weight(weights, weights::EUC_HANGUL),
+            outer: weights::weight(weights, weights::NON_EUC_HANGUL),
+            hanja: weights::weight(weights, weights::HANJA),
+            mixed: weights::weight(weights, weights::HANJA_AFTER_HANGUL),
+            pua: weights::weight(weights, weights::EUC_KR_PUA),
+            mac: weights::weight(weights, weights::MAC_KOREAN),
+            extension: weights::weight(weights, weights::EUC_KR_EXTENSION),
+            long: weights::weight(weights, weights::LONG_WORD),
         }
     }
 
@@ -256,7 +181,7 @@ impl Scale {
 
 impl EucKr {
     // How many entries its index has.
-    pub const INDEX: usize = 23940;
+    pub const INDEX: usize = euckr_decoder::INDEX;
 
     // How many bytes a part has at most.
     pub const LIMIT: usize = 268435456;
@@ -603,7 +528,7 @@ impl EucKr {
         ensures { λ r. ⌜ outOf r ≡ stepOf (lent (now (index .entry)) (now (extras .entry)) w) self b ⌝ }
         ensures { λ r. ⌜ Slight (outOf r) ⌝ }
     {
-        let d = decode(self.lead, b, index);
+        let d = euckr_decoder::decode(self.lead, b, index);
         let event = d.event;
         match event {
             Event::Pending => self.pending(d.lead, b),
@@ -656,6 +581,7 @@ impl EucKr {
     pub fn run(self, part: &[u8], index: &[u32], extras: &[i16], weights: &[i32]) -> Ran
         ensures { λ r. ⌜ r ≡ ranOf (now (index .entry)) (now (extras .entry)) (now (weights .entry)) self (now (part .entry)) ⌝ }
         ensures { λ r. ⌜ Bounded (perByte * length (now (part .entry))) r ⌝ }
+        ensures { λ r. ⌜ Weighed (now (weights .entry)) r ⌝ }
     {
         if is_ready(self, part, index, extras, weights) {
             return self.go(part, index, extras, Scale::read(weights));

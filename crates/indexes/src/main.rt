@@ -1,5 +1,8 @@
 // Counts the entries of the Standard's three indexes, for comparison with the Standard's own figures: for each file its
-// entries, how many are mapped, and the lowest and the highest mapped pointer.
+// entries, how many are mapped, and the lowest and the highest mapped pointer. Then puts every pair of a lead and a byte
+// through the Big5 and the EUC-KR decoder over their indexes, and counts what they yield.
+mod decoders;
+
 ghost use mathlib.Core.Path.{_≡_};
 ghost use Prim.Native.Nat.{_+_, _*_, _^_, _<_, _≤_};
 ghost use lib.ListN.{length};
@@ -55,29 +58,13 @@ fn field(name: &[u8], n: u64) {
     io::print_decimal(STDOUT_FILENO, n);
 }
 
-// Whether the entry whose four bytes begin at `at` is other than zero.
-fn is_mapped(bytes: &[u8], at: usize) -> bool
-    requires { ⌜ at + 4 ≤ length (now bytes) ⌝ }
-{
-    if bytes[at] != 0 {
-        return true;
-    }
-    if bytes[at + 1] != 0 {
-        return true;
-    }
-    if bytes[at + 2] != 0 {
-        return true;
-    }
-    bytes[at + 3] != 0
-}
-
-fn tally_of(bytes: &[u8], entries: usize) -> Tally
-    requires { ⌜ entries * 4 ≤ length (now bytes) ⌝ }
+fn tally_of(index: &[u32]) -> Tally
+    requires { ⌜ length (now index) ≤ 24576 ⌝ }
 {
     let mut t = Tally::empty();
     let mut pointer = 0;
-    while pointer < entries {
-        if is_mapped(bytes, pointer * 4) {
+    while pointer < index.len() {
+        if index[pointer] != 0 {
             t = t.with(pointer as u64);
         }
         pointer += 1;
@@ -85,43 +72,98 @@ fn tally_of(bytes: &[u8], entries: usize) -> Tally
     t
 }
 
-// How many entries the bytes hold, or `most` where they hold more.
-fn entries_of(bytes: &[u8], most: usize) -> usize
-    ensures { λ r. ⌜ r * 4 ≤ length (now (bytes .entry)) ⌝ }
+fn show(name: &[u8], index: &[u32])
+    requires { ⌜ length (now index) ≤ 24576 ⌝ }
 {
-    let all = bytes.len() / 4;
-    if most < all {
-        return most;
-    }
-    all
-}
-
-// The tally of the first entries, at most `most` of them.
-fn show(name: &[u8], bytes: &[u8], most: usize) {
-    let entries = entries_of(bytes, most);
     io::write_all(STDOUT_FILENO, name);
-    field(b" entries ", entries as u64);
-    tally_of(bytes, entries).print();
+    field(b" entries ", index.len() as u64);
+    tally_of(index).print();
 }
 
-// The whole index of a file, and its beginning if that is asked for.
-fn count(name: &[u8], path: &[u8], beginning: usize) {
+// The byte at `at`, or 0 past the end.
+fn byte(bytes: &[u8], at: usize) -> u32
+    ensures { λ r. ⌜ r < 256 ⌝ }
+{
+    if at < bytes.len() {
+        return wide(bytes[at]);
+    }
+    0
+}
+
+fn wide(b: u8) -> u32
+    ensures { λ r. ⌜ r < 256 ⌝ }
+{
+    b as u32
+}
+
+// The entry whose four bytes begin at `at`, the least one first.
+fn entry(bytes: &[u8], at: usize) -> u32
+    requires { ⌜ at < 2 ^ 20 ⌝ }
+{
+    let low = byte(bytes, at) + 256 * byte(bytes, at + 1);
+    low + 65536 * (byte(bytes, at + 2) + 256 * byte(bytes, at + 3))
+}
+
+fn fill(index: &mut [u32], bytes: &[u8])
+    requires { ⌜ length (now index) ≡ 24576 ⌝ }
+{
+    let mut i = 0;
+    while i < index.len() {
+        index[i] = entry(bytes, 4 * i);
+        i += 1;
+    }
+}
+
+// A file's entries, and how many they are; none where it can't be read.
+fn read(path: &[u8], index: &mut [u32]) -> usize
+    requires { ⌜ length (now index) ≡ 24576 ⌝ }
+    ensures { λ r. ⌜ r ≤ 24576 ⌝ }
+{
     let fd = os::open_read(path);
     if fd < 0 {
         os::fail(path);
-        return;
+        return 0;
     }
-    let mut buffer = [0u8; 98304];
-    let n = io::read_full(fd, &mut buffer);
+    let mut bytes = [0u8; 98304];
+    let n = io::read_full(fd, &mut bytes);
     libc::close(fd);
-    show(name, &buffer[..n], 98304);
-    if 0 < beginning {
-        show(name, &buffer[..n], beginning);
+    fill(index, &bytes[..n]);
+    n / 4
+}
+
+fn fewer(n: usize, most: usize) -> usize
+    ensures { λ r. ⌜ r ≤ n ⌝ }
+{
+    if most < n {
+        return most;
     }
+    n
+}
+
+fn big5() {
+    let mut index = [0u32; 24576];
+    let n = read(b"index-big5.u32le", &mut index);
+    show(b"big5", &index[0..n]);
+    decoders::big5(&index[0..n]);
+}
+
+fn euckr() {
+    let mut index = [0u32; 24576];
+    let n = read(b"index-euc-kr.u32le", &mut index);
+    show(b"euc-kr", &index[0..n]);
+    decoders::euckr(&index[0..n]);
+}
+
+// The JIS X 0208 index, and that part of it which ISO-2022-JP can point at.
+fn jis0208() {
+    let mut index = [0u32; 24576];
+    let n = read(b"index-jis0208.u32le", &mut index);
+    show(b"jis0208", &index[0..n]);
+    show(b"jis0208", &index[0..fewer(n, 8836)]);
 }
 
 fn main() {
-    count(b"big5", b"index-big5.u32le", 0);
-    count(b"euc-kr", b"index-euc-kr.u32le", 0);
-    count(b"jis0208", b"index-jis0208.u32le", 8836);
+    big5();
+    euckr();
+    jis0208();
 }

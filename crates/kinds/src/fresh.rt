@@ -1,32 +1,52 @@
 // Whether a machine is the fresh one of its kind.
 ghost use mathlib.Core.Path.{_≡_};
-ghost use Rattle.kinds.specs.Fresh.{freshUtf8B, freshIso2022JpB, emptyB, freshEucKrB, freshBig5B, freshCommonB, freshCaselessB, freshLogicalB, freshVisualB, freshArabicFrenchB, freshB};
+ghost use Rattle.kinds.specs.Fresh.{asciiState, asciiOut, otherKorean, otherCj, spaceCase, freshUtf8B, freshIso2022JpB, emptyB, freshEucKrB, freshBig5B, freshCommonB, freshCaselessB, freshLogicalB, freshVisualB, freshArabicFrenchB, freshB};
 use crate::machine::Machine;
+use crate::tests::both;
+use arabic_french::ArabicFrench;
+use arabic_french::LatinCaseState;
 use big5::Big5;
 use big5::LatinCj;
+use caseless::Caseless;
 use euckr::EucKr;
 use euckr::LatinKorean;
 use iso2022jp::DecoderState;
 use iso2022jp::Iso2022Jp;
 use iso2022jp::OutputState;
+use logical::Logical;
 use pairs::Held;
-use single::arabic_french::ArabicFrench;
-use single::arabic_french::LatinCaseState;
-use single::caseless::Caseless;
-use single::logical::Logical;
-use single::visual::Visual;
 use utf8::Utf8;
+use visual::Visual;
 
 fn is_fresh_utf8(m: Utf8) -> bool
     ensures { λ r. ⌜ r ≡ freshUtf8B m ⌝ }
 {
-    if m.need != 0 {
-        return false;
+    both(m.need == 0, both(m.lo == Utf8::LOWER, m.hi == Utf8::UPPER))
+}
+
+fn is_ascii_state(state: DecoderState) -> bool
+    ensures { λ r. ⌜ r ≡ asciiState state ⌝ }
+{
+    match state {
+        DecoderState::Ascii => true,
+        DecoderState::Roman => false,
+        DecoderState::Katakana => false,
+        DecoderState::LeadByte => false,
+        DecoderState::TrailByte => false,
+        DecoderState::EscapeStart => false,
+        DecoderState::Escape => false,
     }
-    if m.lo != Utf8::LOWER {
-        return false;
+}
+
+fn is_ascii_out(out: OutputState) -> bool
+    ensures { λ r. ⌜ r ≡ asciiOut out ⌝ }
+{
+    match out {
+        OutputState::Ascii => true,
+        OutputState::Roman => false,
+        OutputState::Katakana => false,
+        OutputState::LeadByte => false,
     }
-    m.hi == Utf8::UPPER
 }
 
 fn is_fresh_iso2022jp(m: Iso2022Jp) -> bool
@@ -34,16 +54,10 @@ fn is_fresh_iso2022jp(m: Iso2022Jp) -> bool
 {
     let state = m.state;
     let out = m.out;
-    let DecoderState::Ascii = state else {
-        return false;
-    };
-    let OutputState::Ascii = out else {
-        return false;
-    };
-    if m.lead != 0 {
-        return false;
-    }
-    !m.output
+    both(
+        is_ascii_state(state),
+        both(is_ascii_out(out), both(m.lead == 0, !m.output)),
+    )
 }
 
 fn is_empty(held: Held) -> bool
@@ -55,27 +69,35 @@ fn is_empty(held: Held) -> bool
     }
 }
 
+fn is_other_korean(prev: LatinKorean) -> bool
+    ensures { λ r. ⌜ r ≡ otherKorean prev ⌝ }
+{
+    match prev {
+        LatinKorean::AsciiLetter => false,
+        LatinKorean::Hangul => false,
+        LatinKorean::Hanja => false,
+        LatinKorean::Other => true,
+    }
+}
+
 fn is_fresh_euckr(m: EucKr) -> bool
     ensures { λ r. ⌜ r ≡ freshEucKrB m ⌝ }
 {
     let prev = m.prev;
     let held = m.held;
-    let LatinKorean::Other = prev else {
-        return false;
-    };
-    if m.lead != 0 {
-        return false;
+    let counts = both(m.current_word_len == 0, is_empty(held));
+    let bytes = both(m.prev_byte == 0, both(!m.prev_was_euc_range, counts));
+    both(is_other_korean(prev), both(m.lead == 0, bytes))
+}
+
+fn is_other_cj(prev: LatinCj) -> bool
+    ensures { λ r. ⌜ r ≡ otherCj prev ⌝ }
+{
+    match prev {
+        LatinCj::AsciiLetter => false,
+        LatinCj::Cj => false,
+        LatinCj::Other => true,
     }
-    if m.prev_byte != 0 {
-        return false;
-    }
-    if m.prev_was_euc_range {
-        return false;
-    }
-    if m.current_word_len != 0 {
-        return false;
-    }
-    is_empty(held)
 }
 
 fn is_fresh_big5(m: Big5) -> bool
@@ -83,32 +105,17 @@ fn is_fresh_big5(m: Big5) -> bool
 {
     let prev = m.prev;
     let held = m.held;
-    let LatinCj::Other = prev else {
-        return false;
-    };
-    if m.lead != 0 {
-        return false;
-    }
-    if m.prev_byte != 0 {
-        return false;
-    }
-    is_empty(held)
+    both(
+        is_other_cj(prev),
+        both(m.lead == 0, both(m.prev_byte == 0, is_empty(held))),
+    )
 }
 
 // What the four single-byte machines share.
 fn is_fresh_common(prev: u8, prev_ascii: bool, word: u64, longest: u64) -> bool
     ensures { λ r. ⌜ r ≡ freshCommonB prev «prev_ascii» word longest ⌝ }
 {
-    if prev != 0 {
-        return false;
-    }
-    if !prev_ascii {
-        return false;
-    }
-    if word != 0 {
-        return false;
-    }
-    longest == 0
+    both(prev == 0, both(prev_ascii, both(word == 0, longest == 0)))
 }
 
 fn is_fresh_caseless(m: Caseless) -> bool
@@ -120,32 +127,37 @@ fn is_fresh_caseless(m: Caseless) -> bool
 fn is_fresh_logical(m: Logical) -> bool
     ensures { λ r. ⌜ r ≡ freshLogicalB m ⌝ }
 {
-    if m.plausible_punctuation != 0 {
-        return false;
-    }
-    is_fresh_common(m.prev, m.prev_ascii, m.current_word_len, m.longest_word)
+    let common = is_fresh_common(m.prev, m.prev_ascii, m.current_word_len, m.longest_word);
+    both(m.plausible_punctuation == 0, common)
 }
 
 fn is_fresh_visual(m: Visual) -> bool
     ensures { λ r. ⌜ r ≡ freshVisualB m ⌝ }
 {
-    if m.plausible_punctuation != 0 {
-        return false;
+    let common = is_fresh_common(m.prev, m.prev_ascii, m.current_word_len, m.longest_word);
+    both(
+        m.plausible_punctuation == 0,
+        both(!m.prev_punctuation, common),
+    )
+}
+
+fn is_space_case(case_state: LatinCaseState) -> bool
+    ensures { λ r. ⌜ r ≡ spaceCase «case_state» ⌝ }
+{
+    match case_state {
+        LatinCaseState::Space => true,
+        LatinCaseState::Upper => false,
+        LatinCaseState::Lower => false,
+        LatinCaseState::AllCaps => false,
     }
-    if m.prev_punctuation {
-        return false;
-    }
-    is_fresh_common(m.prev, m.prev_ascii, m.current_word_len, m.longest_word)
 }
 
 fn is_fresh_arabic_french(m: ArabicFrench) -> bool
     ensures { λ r. ⌜ r ≡ freshArabicFrenchB m ⌝ }
 {
     let case_state = m.case_state;
-    let LatinCaseState::Space = case_state else {
-        return false;
-    };
-    is_fresh_common(m.prev, m.prev_ascii, m.current_word_len, m.longest_word)
+    let common = is_fresh_common(m.prev, m.prev_ascii, m.current_word_len, m.longest_word);
+    both(is_space_case(case_state), common)
 }
 
 pub fn is_fresh(machine: Machine) -> bool

@@ -3,3 +3,4 @@ pub mod fresh;
 pub mod machine;
 pub mod sound;
 pub mod tables;
+pub mod tests;

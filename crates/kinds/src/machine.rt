@@ -5,22 +5,18 @@ ghost use lib.ListN.{length};
 ghost use Rattle.weights.specs.Weights.{perByte};
 ghost use Rattle.kinds.specs.Tables.{single, singles, tables};
 ghost use Rattle.kinds.specs.Kinds.{kindOf, freshIn, ofUtf8, ofIso2022Jp, ofEucKr, ofBig5, ofCaseless, ofLogical, ofVisual, ofArabicFrench, ranOf, closedOf, Small, Weighed};
+use arabic_french::ArabicFrench;
 use big5;
 use big5::Big5;
+use caseless::Caseless;
 use euckr;
 use euckr::EucKr;
 use iso2022jp;
 use iso2022jp::Iso2022Jp;
-use single::arabic_french;
-use single::arabic_french::ArabicFrench;
-use single::caseless;
-use single::caseless::Caseless;
-use single::logical;
-use single::logical::Logical;
-use single::visual;
-use single::visual::Visual;
+use logical::Logical;
 use utf8;
 use utf8::Utf8;
+use visual::Visual;
 
 pub enum Machine {
     Utf8(Utf8),

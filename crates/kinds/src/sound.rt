@@ -1,9 +1,9 @@
 // What a machine can hold after so many bytes.
-ghost use mathlib.Core.Bool.{_&&_};
 ghost use mathlib.Core.Path.{_≡_};
-ghost use Rattle.kinds.specs.Sound.{takesSpace, soundLogicalB, soundVisualB, soundB};
+ghost use Rattle.kinds.specs.Sound.{takesSpace, soundLogicalB, soundB};
 use crate::machine::Machine;
-use single::logical::Logical;
+use crate::tests::both;
+use logical::Logical;
 
 // Whether the end of the stream is a space to it, one byte more.
 pub fn takes_space(machine: Machine) -> bool
@@ -15,22 +15,8 @@ pub fn takes_space(machine: Machine) -> bool
 fn is_sound_logical(m: Logical, bytes: u64, reach: u64) -> bool
     ensures { λ r. ⌜ r ≡ soundLogicalB bytes reach m ⌝ }
 {
-    if bytes < m.plausible_punctuation {
-        return false;
-    }
-    if bytes < m.longest_word {
-        return false;
-    }
-    m.is_sound_for(reach)
-}
-
-fn both(a: bool, b: bool) -> bool
-    ensures { λ r. ⌜ r ≡ (a && b) ⌝ }
-{
-    if a {
-        return b;
-    }
-    false
+    let longest = both(m.longest_word <= bytes, m.is_sound_for(reach));
+    both(m.plausible_punctuation <= bytes, longest)
 }
 
 // Whether so many bytes can have led to it. `reach` has the closing space besides: it can lengthen a word and, in visual

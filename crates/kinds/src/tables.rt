@@ -1,6 +1,7 @@
 // The seventeen lent tables: their lengths, in document 01's order.
 ghost use mathlib.Core.Path.{_≡_};
 ghost use Rattle.kinds.specs.Tables.{single, singles, tables, singleB, restB, sizedB};
+use crate::tests::both;
 
 pub const CLASSES: usize = 256;
 
@@ -19,31 +20,20 @@ pub const EXTRAS: usize = 11_172;
 fn is_single(classes: &[u8], marks: &[u8], pairs: &[i16]) -> bool
     ensures { λ r. ⌜ r ≡ singleB (single (now (classes .entry)) (now (marks .entry)) (now (pairs .entry))) ⌝ }
 {
-    if classes.len() != CLASSES {
-        return false;
-    }
-    if marks.len() != MARKS {
-        return false;
-    }
-    pairs.len() == PAIRS
+    both(
+        classes.len() == CLASSES,
+        both(marks.len() == MARKS, pairs.len() == PAIRS),
+    )
 }
 
 fn are_rest(big5: &[u32], euckr: &[u32], jis: &[u32], extras: &[i16], weights: &[i32]) -> bool
     ensures { λ r. ⌜ r ≡ restB (now (big5 .entry)) (now (euckr .entry)) (now (jis .entry)) (now (extras .entry)) (now (weights .entry)) ⌝ }
 {
-    if big5.len() != BIG5 {
-        return false;
-    }
-    if euckr.len() != EUC_KR {
-        return false;
-    }
-    if jis.len() != JIS {
-        return false;
-    }
-    if extras.len() != EXTRAS {
-        return false;
-    }
-    weights.len() == weights::COUNT
+    let numbers = both(extras.len() == EXTRAS, weights.len() == weights::COUNT);
+    both(
+        big5.len() == BIG5,
+        both(euckr.len() == EUC_KR, both(jis.len() == JIS, numbers)),
+    )
 }
 
 // Whether every lent length is exact.
@@ -68,17 +58,9 @@ pub fn are_sized(
 ) -> bool
     ensures { λ r. ⌜ r ≡ sizedB (tables (singles (single (now (classes4 .entry)) (now (marks4 .entry)) (now (pairs4 .entry))) (single (now (classes5 .entry)) (now (marks5 .entry)) (now (pairs5 .entry))) (single (now (classes6 .entry)) (now (marks6 .entry)) (now (pairs6 .entry))) (single (now (classes7 .entry)) (now (marks7 .entry)) (now (pairs7 .entry)))) (now (big5 .entry)) (now (euckr .entry)) (now (jis .entry)) (now (extras .entry)) (now (weights .entry))) ⌝ }
 {
-    if !is_single(classes4, marks4, pairs4) {
-        return false;
-    }
-    if !is_single(classes5, marks5, pairs5) {
-        return false;
-    }
-    if !is_single(classes6, marks6, pairs6) {
-        return false;
-    }
-    if !is_single(classes7, marks7, pairs7) {
-        return false;
-    }
-    are_rest(big5, euckr, jis, extras, weights)
+    let rest = are_rest(big5, euckr, jis, extras, weights);
+    let last = both(is_single(classes7, marks7, pairs7), rest);
+    let third = both(is_single(classes6, marks6, pairs6), last);
+    let second = both(is_single(classes5, marks5, pairs5), third);
+    both(is_single(classes4, marks4, pairs4), second)
 }

@@ -1,6 +1,8 @@
 -- What the other crates stand on: laws, and no code.
 pub mod Arms
+pub mod Carried
 pub mod Determined
+pub mod Each
 pub mod Going
 pub mod Limit
 pub mod Lists

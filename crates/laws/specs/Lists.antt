@@ -3,12 +3,13 @@
 use mathlib.Core.Path.{_≡_, refl, sym, ap, _∙_}
 use mathlib.Core.Bool.{Bool, true, false, cond, _||_}
 use mathlib.Core.List.{List, [], _∷_, _++_}
-use Prim.Native.Nat.{ℕ, _+_, _-_, _<_, _≤_}
+use Prim.Native.Nat.{ℕ, zero, suc, _+_, _-_, _<_, _≤_}
 use native.Mathlib.Nat.{not-suc-le-zero}
 use native.Mathlib.Numerals.{add-one}
 use native.Mathlib.Omega.{arith}
 use lib.Dec.{eqb}
 use lib.ListN.{length, getD, take, drop, length-append, length-drop}
+use Rattle.laws.specs.Tests.{neither}
 use lib.Seq.{drop-cons, take-all, drop-append-le, drop-append-add, drop-drop}
 
 module _ {A : Type 0} where
@@ -63,7 +64,29 @@ module _ {A : Type 0} where
   count-done p [] h = refl
   count-done p (x ∷ xs) h = absurd (not-suc-le-zero h)
 
+  -- ---- some of a part
+  pub any-append : (p : A → Bool) (xs ys : List A) → any p (xs ++ ys) ≡ (any p xs || any p ys)
+  unfolding any
+  any-append p [] ys = refl
+  any-append p (x ∷ xs) ys = or-more (p x) (any p (xs ++ ys)) (any p xs) (any p ys) (any-append p xs ys)
+    where
+      or-more : (t u v w : Bool) → u ≡ (v || w) → (t || u) ≡ ((t || v) || w)
+      or-more true u v w e = refl
+      or-more false u v w e = e
+
+  pub any-drop : (p : A → Bool) (n : ℕ) (xs : List A) → any p xs ≡ false → any p (drop n xs) ≡ false
+  unfolding any
+  any-drop p zero xs e = e
+  any-drop p (suc n) [] e = refl
+  any-drop p (suc n) (x ∷ xs) e = any-drop p n xs (neither (p x) (any p xs) e .1)
+
   -- ---- counting
+  pub count-some : (p : A → Bool) (i : ℕ) (xs : List A) (d : A) → i < length xs → p (getD xs i d) ≡ true → 1 ≤ count p xs
+  unfolding count
+  count-some p i [] d h e = absurd (not-suc-le-zero h)
+  count-some p zero (x ∷ xs) d h e = rw e (omega arith)
+  count-some p (suc i) (x ∷ xs) d h e = omega (arith, count-some p i xs d (omega (arith, h)) e)
+
   pub count-most : (p : A → Bool) (xs : List A) → count p xs ≤ length xs
   unfolding count
   count-most p [] = omega arith

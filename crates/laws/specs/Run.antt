@@ -6,7 +6,7 @@ use Prim.Native.Nat.{ℕ, suc, _+_, _*_, _<_, _≤_}
 use native.Mathlib.Nat.{add-zero, not-suc-le-zero}
 use native.Mathlib.Numerals.{add-one}
 use native.Mathlib.Omega.{arith}
-use lib.IntN.{ℤ, natAbs, _+ℤ_, +ℤ-assoc}
+use lib.IntN.{ℤ, pos, natAbs, _+ℤ_, +ℤ-assoc, +ℤ-idl}
 use lib.ListN.{length, getD, drop}
 use lib.Seq.{drop-cons}
 use Rattle.laws.specs.Sizes.{abs-add}
@@ -37,10 +37,20 @@ unfolding plus
 plus-plus j k (none d) = refl
 plus-plus j k (live m s) = ap (live m) (sym (+ℤ-assoc j k s))
 
+pub plus-zero : {D S : Type 0} (o : Out D S) → plus (pos 0) o ≡ o
+unfolding plus
+plus-zero (none d) = refl
+plus-zero (live m s) = ap (live m) (+ℤ-idl s)
+
 module _ {D S : Type 0} (step : S → ℕ → Out D S) where
   pub run-nil : (o : Out D S) → run step o [] ≡ o
   unfolding run
   run-nil o = refl
+
+  -- one byte, from a score of 0, is the step
+  pub run-one : (m : S) (b : ℕ) → run step (live m (pos 0)) (b ∷ []) ≡ step m b
+  unfolding run feed
+  run-one m b = plus-zero (step m b)
 
   -- joining: a run over xs ++ ys is a run over ys from the run over xs
   pub run-append : (o : Out D S) (xs ys : List ℕ) → run step o (xs ++ ys) ≡ run step (run step o xs) ys

@@ -4,11 +4,11 @@ use mathlib.Core.Bool.{Bool, false}
 use mathlib.Core.List.{List, [], _∷_, _++_}
 use Prim.Native.Nat.{ℕ, _+_, _<_}
 use native.Mathlib.Omega.{arith}
-use lib.IntN.{ℤ, pos, _+ℤ_, +ℤ-idl, +ℤ-idr}
+use lib.IntN.{ℤ, pos, _+ℤ_, +ℤ-idr}
 use lib.ListN.{length, getD, drop}
 use Rattle.laws.specs.Lists.{any}
 use Rattle.laws.specs.Tests.{neither}
-use Rattle.laws.specs.Run.{Out, none, live, plus, feed, run, run-append, run-none, run-plus, turn-live}
+use Rattle.laws.specs.Run.{Out, none, live, plus, feed, run, plus-zero, run-append, run-none, run-plus, turn-live}
 
 abbrev pub Lives : {D S : Type 0} → Out D S → Type 0
 Lives {S} o = (m : S) × ((s : ℤ) × (o ≡ live m s))
@@ -22,11 +22,6 @@ plus-ends : {D S : Type 0} (P : S → Type 0) (s : ℤ) (o : Out D S) → Ends P
 unfolding plus
 plus-ends P s (none d) q = tt
 plus-ends P s (live m t) q = (q .0, ap (λ (z : ℤ). s +ℤ z) (q .1) ∙ +ℤ-idr s)
-
-pub plus-zero : {D S : Type 0} (o : Out D S) → plus (pos 0) o ≡ o
-unfolding plus
-plus-zero (none d) = refl
-plus-zero (live m s) = ap (live m) (+ℤ-idl s)
 
 module _ {D S : Type 0} (step : S → ℕ → Out D S) where
   -- ---- a step that keeps P and changes no score: so does a run

@@ -5,8 +5,8 @@ use mathlib.Core.Path.{_≡_, ap, _∙_}
 use mathlib.Core.List.{List, [], _∷_}
 use Prim.Native.Nat.{ℕ}
 use lib.IntN.{pos}
-use Rattle.laws.specs.Run.{Out, none, live, run, run-nil}
-use Rattle.laws.specs.Still.{ended, plus-zero, run-first, run-drops}
+use Rattle.laws.specs.Run.{Out, none, live, run, run-nil, plus-zero}
+use Rattle.laws.specs.Still.{ended, run-first, run-drops}
 
 -- what a decoder reads from its queue
 pub data Item : Type 0 where

@@ -9,10 +9,10 @@ use Rattle.utf8.specs.declared.Utf8.{Utf8}
 use Rattle.iso2022jp.specs.declared.Iso2022Jp.{Iso2022Jp}
 use Rattle.euckr.specs.declared.EucKr.{EucKr}
 use Rattle.big5.specs.declared.Big5.{Big5}
-use Rattle.single.specs.declared.caseless.Caseless.{Caseless}
-use Rattle.single.specs.declared.logical.Logical.{Logical}
-use Rattle.single.specs.declared.visual.Visual.{Visual}
-use Rattle.single.specs.declared.arabic_french.ArabicFrench.{ArabicFrench}
+use Rattle.caseless.specs.declared.Caseless.{Caseless}
+use Rattle.logical.specs.declared.Logical.{Logical}
+use Rattle.visual.specs.declared.Visual.{Visual}
+use Rattle.arabic_french.specs.declared.ArabicFrench.{ArabicFrench}
 use Rattle.lines.specs.Names.{stateName, outName, koreanName, cjName, caseName}
 
 unfoldable pub heldText : Held → List ℕ

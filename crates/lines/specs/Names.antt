@@ -8,7 +8,7 @@ use Rattle.big5.specs.declared.LatinCj as cj
 use Rattle.euckr.specs.declared.LatinKorean as korean
 use Rattle.iso2022jp.specs.declared.DecoderState as decoder
 use Rattle.iso2022jp.specs.declared.OutputState as output
-use Rattle.single.specs.declared.arabic_french.LatinCaseState as case
+use Rattle.arabic_french.specs.declared.LatinCaseState as case
 
 -- the places by their numbers
 abbrev pub places : List (List ℕ)

@@ -9,7 +9,7 @@ use Rattle.kinds.specs.declared.machine.Machine.the-variants.{Utf8, Iso2022Jp, 
 use Rattle.places.specs.declared.place.Place.{Place}
 use Rattle.places.specs.declared.place.Score as score
 use Rattle.detector.specs.Leader.{leaderOf}
-use Rattle.detector.specs.Reply as reply
+use Rattle.detector.specs.Feed as reply
 use Rattle.detector.specs.declared.feed.Reply.{Reply}
 use Rattle.detector.specs.declared.front.Front.{Front}
 use Rattle.detector.specs.declared.leader.Leader as leader
@@ -21,7 +21,7 @@ abbrev pub newline : List ℕ
 newline = 10 ∷ []
 
 unfoldable pub replyText : Reply → List ℕ
-replyText r = (ascii "reply " ++ decimalOf (reply.numberOf r)) ++ (ascii " " ++ flagOf (reply.flagOf r)) ++ newline
+replyText r = (ascii "reply " ++ decimalOf (reply.numberOf r)) ++ (ascii " " ++ flagOf (reply.replyFlag r)) ++ newline
 
 -- ---- the front
 abbrev pub hexesOf : List ℕ → List ℕ

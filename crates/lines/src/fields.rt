@@ -10,10 +10,10 @@ use euckr::EucKr;
 use iso2022jp::Iso2022Jp;
 use pairs::Held;
 use scribe::page;
-use single::arabic_french::ArabicFrench;
-use single::caseless::Caseless;
-use single::logical::Logical;
-use single::visual::Visual;
+use arabic_french::ArabicFrench;
+use caseless::Caseless;
+use logical::Logical;
+use visual::Visual;
 use utf8::Utf8;
 
 // A label and a number, two hexadecimal digits or a flag after it.

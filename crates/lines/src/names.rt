@@ -7,7 +7,7 @@ use euckr::LatinKorean;
 use iso2022jp::DecoderState;
 use iso2022jp::OutputState;
 use scribe::page;
-use single::arabic_french::LatinCaseState;
+use arabic_french::LatinCaseState;
 
 // The name of a place by its number; the last one's for any above.
 pub(crate) fn place(out: &mut [u8], at: usize, k: usize) -> usize

@@ -136,5 +136,5 @@ pub fn state(out: &mut [u8], at: usize, state: State) -> usize
     let slate = state.places;
     let a = front(out, at, first);
     let b = places(out, a, slate);
-    lead(out, b, leader::leader(state))
+    lead(out, b, leader::of(state))
 }

@@ -9,12 +9,14 @@ use Rattle.pairs.proofs.malformed.Kinds as malformed-kinds
 use Rattle.pairs.proofs.malformed.Reads as malformed-reads
 use Rattle.pairs.proofs.first.Kinds as first-kinds
 use Rattle.pairs.proofs.first.Reads as first-reads
+use Rattle.pairs.proofs.rows.Kinds as rows-kinds
+use Rattle.pairs.proofs.rows.Reads as rows-reads
+use Rattle.pairs.proofs.entry.Kinds as entry-kinds
+use Rattle.pairs.proofs.entry.Reads as entry-reads
 use Rattle.pairs.proofs.is_held_lead.Kinds as is-held-lead-kinds
 use Rattle.pairs.proofs.is_held_lead.Reads as is-held-lead-reads
 use Rattle.pairs.proofs.is_letter.Kinds as is-letter-kinds
 use Rattle.pairs.proofs.is_letter.Reads as is-letter-reads
-use Rattle.pairs.proofs.weight.Kinds as weight-kinds
-use Rattle.pairs.proofs.weight.Reads as weight-reads
 use Rattle.pairs.proofs.Held.released.Kinds as released-kinds
 use Rattle.pairs.proofs.Held.released.Reads as released-reads
 use Rattle.pairs.proofs.Held.is_small.Kinds as is-small-kinds
@@ -32,14 +34,17 @@ malformed = record { total = λ κs a. tt; one = λ κs a z z′ w w′ p q. (sa
 pub first : Determined 0 first-kinds.ps first-kinds.r first-reads.Asked first-reads.Learnt
 first = record { total = λ κs a. tt; one = λ κs a z z′ w w′ p q. (same p q, refl) }
 
+pub rows : Determined 0 rows-kinds.ps rows-kinds.r rows-reads.Asked rows-reads.Learnt
+rows = record { total = λ κs a. tt; one = λ κs a z z′ w w′ p q. (same p q, refl) }
+
+pub entry : Determined 1 entry-kinds.ps entry-kinds.r entry-reads.Asked entry-reads.Learnt
+entry = record { total = λ κs a. tt; one = λ κs a z z′ w w′ p q. (same p q, refl) }
+
 pub is-held-lead : Determined 0 is-held-lead-kinds.ps is-held-lead-kinds.r is-held-lead-reads.Asked is-held-lead-reads.Learnt
 is-held-lead = record { total = λ κs a. tt; one = λ κs a z z′ w w′ p q. (same p q, refl) }
 
 pub is-letter : Determined 0 is-letter-kinds.ps is-letter-kinds.r is-letter-reads.Asked is-letter-reads.Learnt
 is-letter = record { total = λ κs a. tt; one = λ κs a z z′ w w′ p q. (same p q, refl) }
-
-pub weight : Determined 1 weight-kinds.ps weight-kinds.r weight-reads.Asked weight-reads.Learnt
-weight = record { total = λ κs a. tt; one = λ κs a z z′ w w′ p q. (same (p .0) (q .0), refl) }
 
 pub released : Determined 0 released-kinds.ps released-kinds.r released-reads.Asked released-reads.Learnt
 released = record { total = λ κs a. tt; one = λ κs a z z′ w w′ p q. (same p q, refl) }

@@ -1,10 +1,8 @@
 // What Big5 and EUC-KR share: the frame of the Standard's pair decoders, and the held score.
 ghost use mathlib.Core.Path.{_≡_};
-ghost use Prim.Native.Nat.{_≤_};
-ghost use lib.IntN.{pos, natAbs};
+ghost use Prim.Native.Nat.{_-_};
 ghost use lib.ListN.{getD};
 ghost use Rattle.octets.specs.Octets.{letter};
-ghost use Rattle.weights.specs.Weights.{term};
 ghost use Rattle.pairs.specs.Pairs.{isLead, isLeadOrNone, malformedOf, firstOf, isHeldLead, releasedOf, smallHeldB};
 
 // What a decoder yields at a byte: nothing yet, one code point, two, or an error of so many bytes.
@@ -85,6 +83,26 @@ pub fn first(b: u8) -> Decoded
     }
 }
 
+// The rows of an index before a lead's own: 81 has the first.
+pub fn rows(lead: u8) -> usize
+    ensures { λ r. ⌜ r ≡ lead - 0x81 ⌝ }
+{
+    if lead < 0x81 {
+        return 0;
+    }
+    (lead - 0x81) as usize
+}
+
+// A lent entry, or 0 where there is none.
+pub fn entry(index: &[u32], at: usize) -> u32
+    ensures { λ r. ⌜ r ≡ getD (now (index .entry)) at 0 ⌝ }
+{
+    if at < index.len() {
+        return index[at];
+    }
+    0
+}
+
 // Whether a score is held after this byte.
 pub fn is_held_lead(b: u8) -> bool
     ensures { λ r. ⌜ r ≡ isHeldLead b ⌝ }
@@ -105,17 +123,6 @@ pub fn is_letter(u: u32) -> bool
         return false;
     }
     u < 0x7B
-}
-
-// A lent weight, or 0 where there is none.
-pub fn weight(weights: &[i32], k: usize) -> i64
-    ensures { λ r. ⌜ r ≡ getD (now (weights .entry)) k (pos 0) ⌝ }
-    ensures { λ r. ⌜ natAbs r ≤ term ⌝ }
-{
-    if k < weights.len() {
-        return weights[k] as i64;
-    }
-    0
 }
 
 impl Held {

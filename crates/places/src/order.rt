@@ -2,83 +2,99 @@
 ghost use mathlib.Core.Path.{_≡_};
 ghost use Prim.Native.Nat.{_≤_};
 ghost use Rattle.laws.specs.Limit.{limit};
-ghost use Rattle.places.specs.Order.{reachOf, scoredB, unfedB, placeB, slateB};
+ghost use Rattle.kinds.specs.Sound.{reachOf};
+ghost use Rattle.places.specs.Order.{scoredB, zeroOrNoneB, unfedB, placeB, slateB};
 use crate::place::Place;
 use crate::place::Score;
 use crate::place::Slate;
 use kinds::fresh;
 use kinds::machine::Machine;
 use kinds::sound;
+use kinds::tests::both;
+use kinds::tests::either;
 
 // Bytes of a stream at most.
 pub const LIMIT: u64 = 268_435_456;
+
+// The same, of a chunk's length.
+pub const MOST: usize = 268_435_456;
 
 // What one byte adds to a score at most.
 const PER_BYTE: u64 = 10_737_418_240;
 
 // The bytes that a machine has seen at most, the closing space with them.
-fn reach(machine: Machine, bytes: u64, closed: bool) -> u64 {
-    if closed {
-        if sound::takes_space(machine) {
-            return bytes + 1;
-        }
+fn reach(machine: Machine, bytes: u64, closed: bool) -> u64
+    requires { ⌜ bytes ≤ limit ⌝ }
+    ensures { λ r. ⌜ r ≡ reachOf machine bytes closed ⌝ }
+{
+    if both(closed, sound::takes_space(machine)) {
+        return bytes + 1;
     }
     bytes
 }
 
 // Fresh with no score, or with one that so many bytes can have given.
-fn is_scored(place: Place, reach: u64) -> bool {
-    let machine = place.machine;
-    let score = place.score;
+fn is_scored(machine: Machine, score: Score, reach: u64) -> bool
+    requires { ⌜ reach ≤ 268435457 ⌝ }
+    ensures { λ r. ⌜ r ≡ scoredB reach machine score ⌝ }
+{
     match score {
         Score::None => fresh::is_fresh(machine),
         Score::Live(n) => signed::size(n) <= PER_BYTE * reach,
     }
 }
 
-// Fresh, and its score 0 or none.
-fn is_unfed(place: Place) -> bool {
-    let machine = place.machine;
-    let score = place.score;
-    if !fresh::is_fresh(machine) {
-        return false;
-    }
+fn is_zero_or_none(score: Score) -> bool
+    ensures { λ r. ⌜ r ≡ zeroOrNoneB score ⌝ }
+{
     match score {
         Score::None => true,
-        Score::Live(n) => n == 0,
+        Score::Live(n) => signed::size(n) == 0,
     }
+}
+
+// Fresh, and its score 0 or none.
+fn is_unfed(place: Place) -> bool
+    ensures { λ r. ⌜ r ≡ unfedB place ⌝ }
+{
+    let machine = place.machine;
+    let score = place.score;
+    both(fresh::is_fresh(machine), is_zero_or_none(score))
 }
 
 // Whether it can stand at place k: after so many bytes, the stream closed or not, fed already or not.
-fn is_in_order(place: Place, k: usize, bytes: u64, closed: bool, fed: bool) -> bool {
+fn is_in_order(place: Place, k: usize, bytes: u64, closed: bool, fed: bool) -> bool
+    requires { ⌜ bytes ≤ limit ⌝ }
+    ensures { λ r. ⌜ r ≡ placeB bytes closed fed k place ⌝ }
+{
     let machine = place.machine;
-    if machine.kind() != k {
-        return false;
-    }
+    let score = place.score;
     let most = reach(machine, bytes, closed);
-    if !sound::is_sound(machine, bytes, most) {
-        return false;
-    }
-    if !is_scored(place, most) {
-        return false;
-    }
-    if fed {
-        return true;
-    }
-    is_unfed(place)
+    let scored = both(
+        is_scored(machine, score, most),
+        either(fed, is_unfed(place)),
+    );
+    both(
+        machine.kind() == k,
+        both(sound::is_sound(machine, bytes, most), scored),
+    )
 }
 
 // Whether all places can stand so.
-pub fn are_in_order(places: Slate, bytes: u64, closed: bool, fed: bool) -> bool {
+pub fn are_in_order(places: Slate, bytes: u64, closed: bool, fed: bool) -> bool
+    ensures { λ r. ⌜ r ≡ slateB bytes closed fed places ⌝ }
+{
     if LIMIT < bytes {
         return false;
     }
     let mut k = 0;
     while k < 8 {
-        if !is_in_order(places[k], k, bytes, closed, fed) {
+        let place = places[k];
+        if is_in_order(place, k, bytes, closed, fed) {
+            k += 1;
+        } else {
             return false;
         }
-        k += 1;
     }
     true
 }

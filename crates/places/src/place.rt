@@ -1,7 +1,9 @@
 // One place, and what a part of a chunk makes of it.
 ghost use mathlib.Core.Path.{_≡_};
+ghost use lib.ListN.{length};
 ghost use Rattle.kinds.specs.Tables.{single, singles, tables};
-ghost use Rattle.places.specs.Place.{settledOf, endOf, feedOf, FitAt, FitEnd, FitSum};
+ghost use Rattle.places.specs.Order.{Ended, Kept};
+ghost use Rattle.places.specs.Place.{endOf, feedOf, settledOf, FitEnd, FitPart, FitSum};
 use kinds::machine::Machine;
 use kinds::machine::Ran;
 
@@ -20,7 +22,10 @@ pub type Slate = [Place; 8];
 
 impl Place {
     // The score becomes the sum, or none with the machine fresh.
-    fn settled(self, score: i64, ran: Ran) -> Place {
+    fn settled(self, score: i64, ran: Ran) -> Place
+        requires { ⌜ FitSum score ran ⌝ }
+        ensures { λ r. ⌜ r ≡ settledOf self score ran ⌝ }
+    {
         let machine = self.machine;
         match ran {
             Ran::Live(next, change) => Place {
@@ -51,7 +56,11 @@ impl Place {
         marks7: &[u8],
         pairs7: &[i16],
         weights: &[i32],
-    ) -> Place {
+    ) -> Place
+        requires { ⌜ FitEnd (singles (single (now classes4) (now marks4) (now pairs4)) (single (now classes5) (now marks5) (now pairs5)) (single (now classes6) (now marks6) (now pairs6)) (single (now classes7) (now marks7) (now pairs7))) (now weights) self ⌝ }
+        ensures { λ r. ⌜ r ≡ endOf (singles (single (now (classes4 .entry)) (now (marks4 .entry)) (now (pairs4 .entry))) (single (now (classes5 .entry)) (now (marks5 .entry)) (now (pairs5 .entry))) (single (now (classes6 .entry)) (now (marks6 .entry)) (now (pairs6 .entry))) (single (now (classes7 .entry)) (now (marks7 .entry)) (now (pairs7 .entry)))) (now (weights .entry)) self ⌝ }
+        ensures { λ r. ⌜ Ended (singles (single (now (classes4 .entry)) (now (marks4 .entry)) (now (pairs4 .entry))) (single (now (classes5 .entry)) (now (marks5 .entry)) (now (pairs5 .entry))) (single (now (classes6 .entry)) (now (marks6 .entry)) (now (pairs6 .entry))) (single (now (classes7 .entry)) (now (marks7 .entry)) (now (pairs7 .entry)))) (now (weights .entry)) self ⌝ }
+    {
         let machine = self.machine;
         let score = self.score;
         let Score::Live(before) = score else {
@@ -99,7 +108,11 @@ impl Place {
         jis: &[u32],
         extras: &[i16],
         weights: &[i32],
-    ) -> Place {
+    ) -> Place
+        requires { ⌜ FitPart (tables (singles (single (now classes4) (now marks4) (now pairs4)) (single (now classes5) (now marks5) (now pairs5)) (single (now classes6) (now marks6) (now pairs6)) (single (now classes7) (now marks7) (now pairs7))) (now big5) (now euckr) (now jis) (now extras) (now weights)) self (length (now part)) ⌝ }
+        ensures { λ r. ⌜ r ≡ feedOf (tables (singles (single (now (classes4 .entry)) (now (marks4 .entry)) (now (pairs4 .entry))) (single (now (classes5 .entry)) (now (marks5 .entry)) (now (pairs5 .entry))) (single (now (classes6 .entry)) (now (marks6 .entry)) (now (pairs6 .entry))) (single (now (classes7 .entry)) (now (marks7 .entry)) (now (pairs7 .entry)))) (now (big5 .entry)) (now (euckr .entry)) (now (jis .entry)) (now (extras .entry)) (now (weights .entry))) last (now (part .entry)) self ⌝ }
+        ensures { λ r. ⌜ Kept (tables (singles (single (now (classes4 .entry)) (now (marks4 .entry)) (now (pairs4 .entry))) (single (now (classes5 .entry)) (now (marks5 .entry)) (now (pairs5 .entry))) (single (now (classes6 .entry)) (now (marks6 .entry)) (now (pairs6 .entry))) (single (now (classes7 .entry)) (now (marks7 .entry)) (now (pairs7 .entry)))) (now (big5 .entry)) (now (euckr .entry)) (now (jis .entry)) (now (extras .entry)) (now (weights .entry))) last (now (part .entry)) self ⌝ }
+    {
         let machine = self.machine;
         let score = self.score;
         let Score::Live(before) = score else {

@@ -1,39 +1,52 @@
 // All eight places.
 ghost use mathlib.Core.Path.{_≡_};
-ghost use Rattle.kinds.specs.Tables.{single, singles, tables};
-ghost use Rattle.places.specs.Slate.{takenOf, startOf, slatedOf};
+ghost use Rattle.kinds.specs.Tables.{single, singles, tables, Sized};
+ghost use lib.ListN.{length};
+ghost use Prim.Native.Nat.{_<_, _≤_};
+ghost use mathlib.Core.Bool.{true, false};
+ghost use Rattle.laws.specs.Limit.{limit};
+ghost use Rattle.places.specs.Order.{SlateFor};
+ghost use Rattle.places.specs.Place.{place};
+ghost use Rattle.places.specs.Slate.{takenOf, startOf, feedAll, slatedOf, AllKept, KeptIf};
 use crate::order;
 use crate::place::Place;
 use crate::place::Score;
 use crate::place::Slate;
+use arabic_french::ArabicFrench;
 use big5::Big5;
+use caseless::Caseless;
 use euckr::EucKr;
 use iso2022jp::Iso2022Jp;
 use kinds::machine::Machine;
 use kinds::tables;
-use single::arabic_french::ArabicFrench;
-use single::caseless::Caseless;
-use single::logical::Logical;
-use single::visual::Visual;
+use kinds::tests::both;
+use logical::Logical;
 use utf8::Utf8;
+use visual::Visual;
 
 pub const PLACES: usize = 8;
 
-// The places after a part of a chunk; or one of them, a lent length or the part was not fit.
-pub enum Slated {
-    Fed(Slate),
-    Unfit,
+// The places after a part of a chunk; or one of them, a lent length or the part was not fit, and they are as they were.
+pub struct Slated {
+    pub fit: bool,
+    pub places: Slate,
 }
 
 // The score of a place that takes part, or does not: its bit is worth `unit`.
-fn taken(bits: u8, unit: u8) -> Score {
+fn taken(bits: u8, unit: u8) -> Score
+    requires { ⌜ 0 < unit ⌝ }
+    ensures { λ r. ⌜ r ≡ takenOf bits unit ⌝ }
+{
     if bits / unit % 2 == 1 {
         return Score::Live(0);
     }
     Score::None
 }
 
-fn begun(machine: Machine, bits: u8, unit: u8) -> Place {
+fn begun(machine: Machine, bits: u8, unit: u8) -> Place
+    requires { ⌜ 0 < unit ⌝ }
+    ensures { λ r. ⌜ r ≡ place machine (takenOf bits unit) ⌝ }
+{
     Place {
         machine,
         score: taken(bits, unit),
@@ -41,7 +54,9 @@ fn begun(machine: Machine, bits: u8, unit: u8) -> Place {
 }
 
 // Fresh machines; bit k of `bits` says whether place k takes part.
-pub fn start(bits: u8) -> Slate {
+pub fn start(bits: u8) -> Slate
+    ensures { λ r. ⌜ r ≡ startOf bits ⌝ }
+{
     [
         begun(Machine::Utf8(Utf8::fresh()), bits, 1),
         begun(Machine::Iso2022Jp(Iso2022Jp::fresh()), bits, 2),
@@ -75,7 +90,13 @@ fn feed_each(
     jis: &[u32],
     extras: &[i16],
     weights: &[i32],
-) -> Slate {
+) -> Slate
+    requires { ⌜ Sized (tables (singles (single (now classes4) (now marks4) (now pairs4)) (single (now classes5) (now marks5) (now pairs5)) (single (now classes6) (now marks6) (now pairs6)) (single (now classes7) (now marks7) (now pairs7))) (now big5) (now euckr) (now jis) (now extras) (now weights)) ⌝ }
+    requires { ⌜ SlateFor limit false true places ⌝ }
+    requires { ⌜ length (now part) ≤ limit ⌝ }
+    ensures { λ r. ⌜ r ≡ feedAll (tables (singles (single (now (classes4 .entry)) (now (marks4 .entry)) (now (pairs4 .entry))) (single (now (classes5 .entry)) (now (marks5 .entry)) (now (pairs5 .entry))) (single (now (classes6 .entry)) (now (marks6 .entry)) (now (pairs6 .entry))) (single (now (classes7 .entry)) (now (marks7 .entry)) (now (pairs7 .entry)))) (now (big5 .entry)) (now (euckr .entry)) (now (jis .entry)) (now (extras .entry)) (now (weights .entry))) last (now (part .entry)) places ⌝ }
+    ensures { λ r. ⌜ AllKept (tables (singles (single (now (classes4 .entry)) (now (marks4 .entry)) (now (pairs4 .entry))) (single (now (classes5 .entry)) (now (marks5 .entry)) (now (pairs5 .entry))) (single (now (classes6 .entry)) (now (marks6 .entry)) (now (pairs6 .entry))) (single (now (classes7 .entry)) (now (marks7 .entry)) (now (pairs7 .entry)))) (now (big5 .entry)) (now (euckr .entry)) (now (jis .entry)) (now (extras .entry)) (now (weights .entry))) last (now (part .entry)) places ⌝ }
+{
     let mut out = places;
     let mut i = 0;
     while i < PLACES {
@@ -128,10 +149,41 @@ pub fn feed(
     jis: &[u32],
     extras: &[i16],
     weights: &[i32],
-) -> Slated {
-    if part.len() <= order::LIMIT as usize {
-        if order::are_in_order(places, order::LIMIT, false, true) {
-            if tables::are_sized(
+) -> Slated
+    ensures { λ r. ⌜ r ≡ slatedOf (tables (singles (single (now (classes4 .entry)) (now (marks4 .entry)) (now (pairs4 .entry))) (single (now (classes5 .entry)) (now (marks5 .entry)) (now (pairs5 .entry))) (single (now (classes6 .entry)) (now (marks6 .entry)) (now (pairs6 .entry))) (single (now (classes7 .entry)) (now (marks7 .entry)) (now (pairs7 .entry)))) (now (big5 .entry)) (now (euckr .entry)) (now (jis .entry)) (now (extras .entry)) (now (weights .entry))) last (now (part .entry)) places ⌝ }
+    ensures { λ r. ⌜ KeptIf (r .fit) (tables (singles (single (now (classes4 .entry)) (now (marks4 .entry)) (now (pairs4 .entry))) (single (now (classes5 .entry)) (now (marks5 .entry)) (now (pairs5 .entry))) (single (now (classes6 .entry)) (now (marks6 .entry)) (now (pairs6 .entry))) (single (now (classes7 .entry)) (now (marks7 .entry)) (now (pairs7 .entry)))) (now (big5 .entry)) (now (euckr .entry)) (now (jis .entry)) (now (extras .entry)) (now (weights .entry))) last (now (part .entry)) places ⌝ }
+{
+    let sized = tables::are_sized(
+        classes4,
+        marks4,
+        pairs4,
+        classes5,
+        marks5,
+        pairs5,
+        classes6,
+        marks6,
+        pairs6,
+        classes7,
+        marks7,
+        pairs7,
+        big5,
+        euckr,
+        jis,
+        extras,
+        weights,
+    );
+    let slate = both(
+        order::are_in_order(places, order::LIMIT, false, true),
+        sized,
+    );
+    let fit = both(part.len() <= order::MOST, slate);
+    if fit {
+        return Slated {
+            fit,
+            places: feed_each(
+                places,
+                part,
+                last,
                 classes4,
                 marks4,
                 pairs4,
@@ -149,31 +201,8 @@ pub fn feed(
                 jis,
                 extras,
                 weights,
-            ) {
-                return Slated::Fed(feed_each(
-                    places,
-                    part,
-                    last,
-                    classes4,
-                    marks4,
-                    pairs4,
-                    classes5,
-                    marks5,
-                    pairs5,
-                    classes6,
-                    marks6,
-                    pairs6,
-                    classes7,
-                    marks7,
-                    pairs7,
-                    big5,
-                    euckr,
-                    jis,
-                    extras,
-                    weights,
-                ));
-            }
-        }
+            ),
+        };
     }
-    Slated::Unfit
+    Slated { fit, places }
 }

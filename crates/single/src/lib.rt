@@ -1,7 +1,191 @@
-// The four single-byte machines. Each has its fresh state, a step (one byte, private), a run over a part of a chunk and
-// the close. Their class, word, pair and adjacency rules stand once, in `shared`.
-pub mod arabic_french;
-pub mod caseless;
-pub mod logical;
-mod shared;
-pub mod visual;
+// What the four single-byte machines have in common: class, word length, pair score, adjacency, and the test of what is lent.
+ghost use mathlib.Core.Path.{_≡_};
+ghost use mathlib.Core.Bool.{cond};
+ghost use Prim.Native.Nat.{_*_, _≤_};
+ghost use lib.IntN.{pos, natAbs};
+ghost use Rattle.weights.specs.Weights.{term};
+ghost use Rattle.single.specs.Class.{alphabeticOf};
+ghost use Rattle.single.specs.Fit.{commonB, fitB};
+ghost use Rattle.single.specs.Lent.{lent, sizedB};
+ghost use Rattle.single.specs.Pair.{asciiPair, adjacentOf, pairScore, pairOf};
+ghost use Rattle.single.specs.Punctuation.{punctuationOf, countOf};
+ghost use Rattle.single.specs.Words.{in64, wordsOf};
+
+pub const LATIN_LETTER: u8 = 1;
+
+pub const NO_CLASS: u8 = 255;
+// A count at the entry of a call is at most this, so that no run makes it wrap.
+pub const ROOM: u64 = 4611686018427387904;
+
+pub struct Words {
+    pub current: u64,
+    pub longest: u64,
+}
+
+// Whether all that is lent has its length.
+fn is_sized(classes: &[u8], marks: &[u8], pairs: &[i16], weights: &[i32]) -> bool
+    ensures { λ r. ⌜ r ≡ sizedB (lent (now (classes .entry)) (now (marks .entry)) (now (pairs .entry)) (now (weights .entry))) ⌝ }
+{
+    if classes.len() != 256 {
+        return false;
+    }
+    if marks.len() != 128 {
+        return false;
+    }
+    if pairs.len() != 16384 {
+        return false;
+    }
+    weights.len() == weights::COUNT
+}
+
+// Whether n bytes can have led to the fields that the four records share.
+pub fn is_common(n: u64, prev: u8, word: u64, longest: u64) -> bool
+    ensures { λ r. ⌜ r ≡ commonB n prev word longest ⌝ }
+{
+    if 128 <= prev {
+        return false;
+    }
+    if n < word {
+        return false;
+    }
+    longest <= n
+}
+
+// The test at the entry of a public call.
+pub fn is_fit(
+    sound: bool,
+    bytes: usize,
+    classes: &[u8],
+    marks: &[u8],
+    pairs: &[i16],
+    weights: &[i32],
+) -> bool
+    ensures { λ r. ⌜ r ≡ fitB (lent (now (classes .entry)) (now (marks .entry)) (now (pairs .entry)) (now (weights .entry))) sound bytes ⌝ }
+{
+    if is_sized(classes, marks, pairs, weights) {
+        if sound {
+            return bytes <= 268435456;
+        }
+    }
+    false
+}
+
+// Whether the marks say so of the class; a class that they don't reach is not alphabetic.
+pub fn is_non_latin_alphabetic(marks: &[u8], class: u8) -> bool
+    ensures { λ r. ⌜ r ≡ alphabeticOf (now (marks .entry)) class ⌝ }
+{
+    let k = class as usize;
+    if k < marks.len() {
+        return marks[k] != 0;
+    }
+    false
+}
+
+// Counts are kept in 64 bits.
+pub fn words_after(current: u64, longest: u64, alphabetic: bool) -> Words
+    ensures { λ r. ⌜ r ≡ wordsOf current longest alphabetic ⌝ }
+{
+    if alphabetic {
+        return Words {
+            current: std::num::wrapping_add_u64(current, 1),
+            longest,
+        };
+    }
+    if current == 0 {
+        return Words { current, longest };
+    }
+    if longest < current {
+        return Words {
+            current: 0,
+            longest: current,
+        };
+    }
+    Words {
+        current: 0,
+        longest,
+    }
+}
+
+// Whether a byte is ASCII punctuation of caseless class 0.
+pub fn is_punctuation(class: u8, b: u8) -> bool
+    ensures { λ r. ⌜ r ≡ punctuationOf class b ⌝ }
+{
+    if class == 0 {
+        return octets::is_ascii_punctuation(b);
+    }
+    false
+}
+
+pub fn count_if(count: u64, more: bool) -> u64
+    ensures { λ r. ⌜ r ≡ in64 (countOf count more) ⌝ }
+{
+    if more {
+        return std::num::wrapping_add_u64(count, 1);
+    }
+    count
+}
+
+// Whether this byte and the previous one are both ASCII.
+pub fn is_ascii_pair(prev_ascii: bool, b: u8) -> bool
+    ensures { λ r. ⌜ r ≡ asciiPair «prev_ascii» b ⌝ }
+{
+    if prev_ascii {
+        return octets::is_ascii(b);
+    }
+    false
+}
+
+// Whether a Latin letter and a non-Latin alphabetic class stand side by side.
+fn is_adjacent(prev: u8, current: u8, marks: &[u8]) -> bool
+    ensures { λ r. ⌜ r ≡ adjacentOf (now (marks .entry)) prev current ⌝ }
+{
+    if prev == LATIN_LETTER {
+        return is_non_latin_alphabetic(marks, current);
+    }
+    if current == LATIN_LETTER {
+        return is_non_latin_alphabetic(marks, prev);
+    }
+    false
+}
+
+// The lent score of the pair, or 0 where there is none.
+fn pair_score(prev: u8, current: u8, pairs: &[i16]) -> i64
+    ensures { λ r. ⌜ r ≡ pairScore (now (pairs .entry)) prev current ⌝ }
+    ensures { λ r. ⌜ natAbs r ≤ term ⌝ }
+{
+    let at = 128 * current as usize + prev as usize;
+    if at < pairs.len() {
+        return pairs[at] as i64;
+    }
+    0
+}
+
+// The pair score of `current` after `prev`, with the adjacency weight where it applies.
+pub fn pair_gain(prev: u8, current: u8, marks: &[u8], pairs: &[i16], weights: &[i32]) -> i64
+    ensures { λ r. ⌜ r ≡ pairOf (now (marks .entry)) (now (pairs .entry)) (now (weights .entry)) prev current ⌝ }
+    ensures { λ r. ⌜ natAbs r ≤ 2 * term ⌝ }
+{
+    let pair = pair_score(prev, current, pairs);
+    if is_adjacent(prev, current, marks) {
+        return pair + weights::weight(weights, weights::LATIN_ADJACENCY);
+    }
+    pair
+}
+
+// By what a byte of that class changes the score.
+pub fn gain(
+    ascii_pair: bool,
+    prev: u8,
+    current: u8,
+    marks: &[u8],
+    pairs: &[i16],
+    weights: &[i32],
+) -> i64
+    ensures { λ r. ⌜ r ≡ cond «ascii_pair» (pos 0) (pairOf (now (marks .entry)) (now (pairs .entry)) (now (weights .entry)) prev current) ⌝ }
+    ensures { λ r. ⌜ natAbs r ≤ 2 * term ⌝ }
+{
+    if ascii_pair {
+        return 0;
+    }
+    pair_gain(prev, current, marks, pairs, weights)
+}

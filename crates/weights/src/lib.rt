@@ -1,4 +1,10 @@
-// The 17 lent weights, by their places in document 01's order.
+// The 17 lent weights, by their places in document 01's order, and how one is read.
+ghost use mathlib.Core.Path.{_≡_};
+ghost use Prim.Native.Nat.{_≤_};
+ghost use lib.IntN.{pos, natAbs};
+ghost use lib.ListN.{getD};
+ghost use Rattle.weights.specs.Weights.{term};
+
 pub const COUNT: usize = 17;
 
 pub const CASE: usize = 0;
@@ -34,3 +40,14 @@ pub const MAC_KOREAN: usize = 14;
 pub const EUC_KR_EXTENSION: usize = 15;
 
 pub const LONG_WORD: usize = 16;
+
+// A lent weight, or 0 where there is none.
+pub fn weight(weights: &[i32], k: usize) -> i64
+    ensures { λ r. ⌜ r ≡ getD (now (weights .entry)) k (pos 0) ⌝ }
+    ensures { λ r. ⌜ natAbs r ≤ term ⌝ }
+{
+    if k < weights.len() {
+        return weights[k] as i64;
+    }
+    0
+}

@@ -61,6 +61,7 @@ impl Tables {
 pub fn named(name: &str, seed: u64) -> Option<Tables> {
     match name {
         "demo" => Some(demo()),
+        "named" => Some(for_named()),
         "random" => Some(random(seed)),
         "mild" => Some(mild(seed)),
         "class255" => Some(class255(seed)),
@@ -88,13 +89,43 @@ pub fn demo() -> Tables {
     tables
 }
 
-/// The demonstration's classes under the Standard's indexes, with weights of
-/// which no few give the same sum.
-pub fn standard(folder: &str) -> Result<Tables> {
+/// Weights of which no few give the same sum, and extras.
+fn tell(tables: &mut Tables) {
     const WEIGHTS: [i64; 17] = [
         -3, -5, -7, 11, 13, 1009, 307, -2003, -40_009, 1201, 401, 101, -5003, -6007, -70_001,
         -80_021, -17,
     ];
+    tables.fill(Part::Extra, |entry| (entry * 37 % 211) as i64 - 105);
+    tables.fill(Part::Weight, |entry| WEIGHTS[entry]);
+}
+
+/// The demonstration's classes, weights that tell, and no entries but those
+/// of which the named cases speak.
+fn for_named() -> Tables {
+    let mut tables = demo();
+    tell(&mut tables);
+    let big5 = |lead: usize, second: usize| {
+        (lead - 0x81) * 157 + second - if second < 0x7F { 0x40 } else { 0x62 }
+    };
+    let euc_kr = |lead: usize, second: usize| (lead - 0x81) * 190 + second - 0x41;
+    for second in [0x40, 0xFC, 0xFD, 0xFE] {
+        tables.set(Part::Big5, big5(0xB0, second), 0x4E00);
+    }
+    for special in [0x62, 0x64, 0xA3, 0xA5] {
+        tables.set(Part::Big5, big5(0x88, special), 0x4E00);
+    }
+    tables.set(Part::Big5, big5(0x88, 0x63), 0xE000);
+    for (number, second) in [0xA1, 0x81, 0x82, 0x83, 0x84, 0x85].into_iter().enumerate() {
+        tables.set(Part::EucKr, euc_kr(0xB0, second), 0xAC00 + number as i64);
+    }
+    tables.set(Part::EucKr, euc_kr(0x82, 0x41), 0xAC06);
+    tables.set(Part::EucKr, euc_kr(0xC9, 0xA2), 0xE000);
+    tables
+}
+
+/// The demonstration's classes under the Standard's indexes, with weights that
+/// tell.
+pub fn standard(folder: &str) -> Result<Tables> {
     let mut tables = demo();
     for (part, file) in [
         (Part::Big5, "index-big5.u32le"),
@@ -107,8 +138,7 @@ pub fn standard(folder: &str) -> Result<Tables> {
         let used = bytes.get(..entries * width).ok_or(Error::other(format!("{file}: short")))?;
         tables.bytes[start..start + used.len()].copy_from_slice(used);
     }
-    tables.fill(Part::Extra, |entry| (entry * 37 % 211) as i64 - 105);
-    tables.fill(Part::Weight, |entry| WEIGHTS[entry]);
+    tell(&mut tables);
     Ok(tables)
 }
 

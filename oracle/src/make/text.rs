@@ -15,6 +15,10 @@ pub enum Text {
     Noise,
     /// Few bytes at which rules turn.
     Telling,
+    /// Korean in EUC-KR, Chinese in Big5: words whose pairs the Standard's
+    /// indexes map, all of them.
+    Hangul,
+    Hanzi,
 }
 
 /// What one of the encodings allows.
@@ -33,8 +37,11 @@ pub const ALL: [Text; 8] = [
 /// The kind of that name.
 pub fn named(name: &str) -> Option<Text> {
     let names = ["ascii", "utf-8", "iso-2022-jp", "euc-kr", "big5", "single", "noise", "telling"];
-    let at = names.iter().position(|&known| known == name)?;
-    Some(ALL[at])
+    match name {
+        "hangul" => Some(Text::Hangul),
+        "hanzi" => Some(Text::Hanzi),
+        _ => names.iter().position(|&known| known == name).map(|at| ALL[at]),
+    }
 }
 
 /// Text of at least `length` bytes, by whole pieces.
@@ -50,6 +57,8 @@ pub fn text(random: &mut Random, kind: Text, length: usize) -> Vec<u8> {
             Text::Single => single(random, &mut bytes),
             Text::Noise => bytes.push(random.byte()),
             Text::Telling => bytes.push(*random.pick(&TELLING)),
+            Text::Hangul => hangul(random, &mut bytes),
+            Text::Hanzi => hanzi(random, &mut bytes),
         }
     }
     bytes
@@ -127,6 +136,32 @@ fn big5(random: &mut Random, bytes: &mut Vec<u8>) {
         7 => pair(random, (0xFA, 0xFE), seconds, bytes),
         8 => pair(random, (0xB0, 0xB0), seconds, bytes),
         _ => pair(random, (0xA4, 0xC6), seconds, bytes),
+    }
+}
+
+/// A word or two and what parts it from the next.
+fn hangul(random: &mut Random, bytes: &mut Vec<u8>) {
+    const UPPER: (u8, u8) = (0xA1, 0xFE);
+    let length = 1 + random.below(5);
+    match random.below(12) {
+        0 => bytes.extend((0..length).map(|_| random.within(b'a', b'z'))),
+        1 => (0..length).for_each(|_| pair(random, (0xCA, 0xFD), UPPER, bytes)),
+        2 => (0..length).for_each(|_| pair(random, (0x81, 0xA0), (0x81, 0xFE), bytes)),
+        _ => (0..length).for_each(|_| pair(random, (0xB0, 0xC8), UPPER, bytes)),
+    }
+    bytes.extend(*random.pick(&[b" ".as_slice(), b" ", b" ", b", ", b". ", b"\xA1\xA4"]));
+}
+
+fn hanzi(random: &mut Random, bytes: &mut Vec<u8>) {
+    for _ in 0..=random.below(7) {
+        let seconds = *random.pick(&[(0x40, 0x7E), (0xA1, 0xFE)]);
+        let leads = *random.pick(&[(0xA4, 0xC5), (0xA4, 0xC5), (0xA4, 0xC5), (0xC9, 0xF8)]);
+        pair(random, leads, seconds, bytes);
+    }
+    match random.below(8) {
+        0 => bytes.extend((0..=random.below(5)).map(|_| random.within(b'a', b'z'))),
+        1 => bytes.extend(b" "),
+        _ => bytes.extend(*random.pick(&[b"\xA1\x41", b"\xA1\x43"])),
     }
 }
 

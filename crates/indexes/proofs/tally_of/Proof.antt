@@ -2,43 +2,40 @@
 use mathlib.Core.Logic.{⊎-elim}
 use Prim.Native.Nat.{_-_, _≤_}
 use native.Mathlib.Omega.{arith}
+use lib.ListN.{length}
 use borrow.Author.Needs.{needs}
 use Rattle.indexes.proofs.tally_of.Statement.{statement}
 use Rattle.indexes.proofs.tally_of.Tie as tie
 
 abbrev Inv-loop : tie.InvT-loop
-Inv-loop bytes entries t₀ pointer₀ t pointer = (pointer ≤ entries) × (t .mapped ≤ pointer)
+Inv-loop index t₀ pointer₀ t pointer = (pointer ≤ length index) × (t .mapped ≤ pointer)
 
 abbrev μ-loop : tie.MeasureT-loop
-μ-loop bytes entries t₀ pointer₀ t pointer = entries - pointer
+μ-loop index t₀ pointer₀ t pointer = length index - pointer
 
 empty-requires : tie.Need-empty-requires Inv-loop μ-loop
 empty-requires c κs = search needs
 
 loop-holds : tie.Need-loop-holds Inv-loop μ-loop
-loop-holds c = omega arith
+loop-holds c = search needs
 
-mul-is-mapped : tie.Need-mul-is-mapped Inv-loop μ-loop
-mul-is-mapped c = omega arith
+mul-if1 : tie.Need-mul-if1 Inv-loop μ-loop
+mul-if1 c = search needs
 
-is-mapped-requires : tie.Need-is-mapped-requires Inv-loop μ-loop
-is-mapped-requires c κs = search needs
+shared-slice-read-if1 : tie.Need-shared-slice-read-if1 Inv-loop μ-loop
+shared-slice-read-if1 c = search needs
 
 with-requires : tie.Need-with-requires Inv-loop μ-loop
 with-requires c κs = search needs
 
 add-pointer : tie.Need-add-pointer Inv-loop μ-loop
-add-pointer c = omega arith
+add-pointer c = search needs
 
 loop-less : tie.Need-loop-less Inv-loop μ-loop
-loop-less c = omega arith
+loop-less c = search needs
 
 loop-again : tie.Need-loop-again Inv-loop μ-loop
-loop-again c =
-    ⊎-elim
-    (λ w. (omega arith, rw (w .2) (w .1 .ensures)))
-    (λ w. (omega arith, rw (w .1) (omega arith)))
-    (c .if1 .came)
+loop-again c = ⊎-elim (λ w. (omega arith, rw (w .2) (w .1 .ensures))) (λ w. (omega arith, rw (w .1) (omega arith))) (c .if1 .came)
 
 returns : tie.Need-returns Inv-loop μ-loop
 returns c = search needs
@@ -51,8 +48,8 @@ tally-of-spec =
     μ-loop
     empty-requires
     loop-holds
-    mul-is-mapped
-    is-mapped-requires
+    mul-if1
+    shared-slice-read-if1
     with-requires
     add-pointer
     loop-less

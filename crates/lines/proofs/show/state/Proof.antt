@@ -22,7 +22,7 @@ same-length c = search needs
 
 returns : tie.Need-returns
 unfolding stateText
-returns c = follow _ _ _ (follow _ _ _ (c .before .before .before .before .before .before .before .before .before .before .before .front .ensures) (c .before .before .before .before .before .before .before .places .ensures)) (rw (c .before .before .before .leader .ensures) at (c .before .before .lead .ensures))
+returns c = follow _ _ _ (follow _ _ _ (c .before .before .before .before .before .before .before .before .before .before .before .front .ensures) (c .before .before .before .before .before .before .before .places .ensures)) (rw (c .before .before .before .of .ensures) at (c .before .before .lead .ensures))
 
 pub state-spec : {M : Type 1} → statement M
 state-spec =

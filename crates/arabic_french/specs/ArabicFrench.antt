@@ -1,0 +1,90 @@
+-- The Arabic-French machine: what one byte does, a part of a chunk, and the close. Assumes nothing.
+use mathlib.Core.Bool.{Bool, true, false, cond, not, _&&_}
+use mathlib.Core.List.{List}
+use Prim.Native.Nat.{ℕ, _%_, _≤_}
+use lib.Dec.{eqb}
+use lib.IntN.{ℤ, pos, natAbs, _+ℤ_}
+use lib.ListN.{length}
+use Rattle.laws.specs.Run.{Out, none, live, run}
+use Rattle.octets.specs.Octets.{ascii}
+use Rattle.weights.specs.Weights.{weightOf, case}
+use Rattle.single.specs.Class.{classOf, caselessOf, isCapital, latinLetter, alphabetic, unless255, space}
+use Rattle.laws.specs.Limit.{room}
+use Rattle.single.specs.Fit.{Common, commonB, fitB}
+use Rattle.single.specs.Lent.{Lent}
+use Rattle.single.specs.Pair.{asciiPair, gainOf}
+use Rattle.single.specs.Words.{wordOf, longestOf}
+use Rattle.arabic_french.specs.declared.ArabicFrench.{ArabicFrench}
+use Rattle.arabic_french.specs.declared.LatinCaseState.{LatinCaseState}
+use Rattle.arabic_french.specs.declared.LatinCaseState.the-variants.{Space, Upper, Lower, AllCaps}
+use Rattle.arabic_french.specs.declared.Ran.{Ran}
+use Rattle.arabic_french.specs.declared.Ran.the-variants.{Live, Dropped, Unfit}
+
+abbrev pub freshOf : ArabicFrench
+freshOf = record { prev = 0; «case_state» = Space; «prev_ascii» = true; «current_word_len» = 0; «longest_word» = 0 }
+
+-- the case of the Latin letters so far
+abbrev pub capitalAfter : LatinCaseState → LatinCaseState
+capitalAfter Space = Upper
+capitalAfter Upper = AllCaps
+capitalAfter Lower = Upper
+capitalAfter AllCaps = AllCaps
+
+abbrev pub caseOf : LatinCaseState → ℕ → LatinCaseState
+caseOf state class = cond (eqb (class % 128) latinLetter) (cond (isCapital class) (capitalAfter state) Lower) Space
+
+-- lower after AllCaps, or capital after Lower
+abbrev pub clashAt : LatinCaseState → Bool → Bool
+clashAt Space capital = false
+clashAt Upper capital = false
+clashAt Lower capital = capital
+clashAt AllCaps capital = not capital
+
+abbrev pub clashOf : LatinCaseState → ℕ → Bool
+clashOf state class = eqb (class % 128) latinLetter && clashAt state (isCapital class)
+
+-- the case weight for such a letter, unless both bytes are ASCII
+abbrev pub caseGainOf : List ℤ → Bool → LatinCaseState → ℕ → ℤ
+caseGainOf weights both state class = cond both (pos 0) (cond (clashOf state class) (weightOf weights case) (pos 0))
+
+module _ (t : Lent) where
+  abbrev pub nextOf : ArabicFrench → ℕ → ArabicFrench
+  nextOf m b =
+      record {
+        prev = caselessOf t b;
+        «case_state» = caseOf (m .«case_state») (classOf t b);
+        «prev_ascii» = ascii b;
+        «current_word_len» = wordOf (m .«current_word_len») (alphabetic t b);
+        «longest_word» = longestOf (m .«current_word_len») (m .«longest_word») (alphabetic t b);
+      }
+
+  unfoldable pub stepOf : ArabicFrench → ℕ → Out (Unit {0}) ArabicFrench
+  stepOf m b = unless255 t b (live (nextOf m b) (gainOf t (m .prev) (m .«prev_ascii») b +ℤ caseGainOf (t .weights) (asciiPair (m .«prev_ascii») b) (m .«case_state») (classOf t b)))
+
+  -- the end of the stream is a space
+  abbrev pub closeOf : ArabicFrench → Out (Unit {0}) ArabicFrench
+  closeOf m = stepOf m space
+
+-- what n bytes can have led to
+abbrev pub Sound : ℕ → ArabicFrench → Type 0
+Sound n m = Common n (m .prev) (m .«current_word_len») (m .«longest_word»)
+
+abbrev pub soundB : ℕ → ArabicFrench → Bool
+soundB n m = commonB n (m .prev) (m .«current_word_len») (m .«longest_word»)
+
+-- ---- the answers
+abbrev pub ranAs : Out (Unit {0}) ArabicFrench → Ran
+ranAs (none d) = Dropped
+ranAs (live m s) = Live m s
+
+unfoldable pub ranOf : Lent → ArabicFrench → List ℕ → Ran
+ranOf t m xs = cond (fitB t (soundB room m) (length xs)) (ranAs (run (stepOf t) (live m (pos 0)) xs)) Unfit
+
+unfoldable pub closedOf : Lent → ArabicFrench → Ran
+closedOf t m = cond (fitB t (soundB room m) 0) (ranAs (closeOf t m)) Unfit
+
+-- a live answer's score has at most this size
+abbrev pub Small : ℕ → Ran → Type 0
+Small c (Live m s) = natAbs s ≤ c
+Small c Dropped = Unit {0}
+Small c Unfit = Unit {0}

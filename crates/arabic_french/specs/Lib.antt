@@ -1,0 +1,3 @@
+pub mod ArabicFrench
+pub mod ArabicFrenchLaws
+pub mod HeadLaws

@@ -1,0 +1,85 @@
+-- What a feed replies, what it gives and what it leaves. Assumes nothing.
+use mathlib.Core.Path.{_≡_}
+use mathlib.Core.Bool.{Bool, false, cond}
+use mathlib.Core.List.{List}
+use Prim.Native.Nat.{ℕ, _+_, _-_, _≤_}
+use lib.Dec.{ltb}
+use lib.ListN.{length}
+use Rattle.laws.specs.Limit.{limit}
+use Rattle.kinds.specs.Tables.{Tables, Sized, sizedB}
+use Rattle.places.specs.Slate.{feedAll}
+use Rattle.places.specs.declared.place.Place.{Place}
+use Rattle.detector.specs.Front.{flagOf, Reaches, none, some, reachesOf, frontOf}
+use Rattle.detector.specs.Order.{InOrder, stateB}
+use Rattle.detector.specs.declared.feed.Fed.{Fed}
+use Rattle.detector.specs.declared.feed.Reply.{Reply}
+use Rattle.detector.specs.declared.feed.Reply.the-variants.{Accepted, Closed, WrongLength, TooLong, NotInOrder}
+use Rattle.detector.specs.declared.feed.Verdict.{Verdict}
+use Rattle.detector.specs.declared.feed.Verdict.the-variants.{Accept, Refuse}
+use Rattle.detector.specs.declared.state.State.{State}
+
+-- ---- the reply table: number and flag
+unfoldable pub numberOf : Reply → ℕ
+numberOf (Accepted flag) = 0
+numberOf (Closed flag) = 1
+numberOf (WrongLength flag) = 2
+numberOf (TooLong flag) = 3
+numberOf NotInOrder = 4
+
+unfoldable pub replyFlag : Reply → Bool
+replyFlag (Accepted flag) = flag
+replyFlag (Closed flag) = flag
+replyFlag (WrongLength flag) = flag
+replyFlag (TooLong flag) = flag
+replyFlag NotInOrder = false
+
+-- ---- the tests, 4, 1, 2, 3: the state, the close, the lent lengths, the bytes accepted and this chunk's
+unfoldable pub verdictOf : State → Bool → ℕ → Verdict
+verdictOf s sized n =
+    cond (stateB s)
+    (cond (s .front .closed) (Refuse (Closed (flagOf (s .front))))
+    (cond sized
+    (cond (ltb (limit - s .front .bytes) n) (Refuse (TooLong (flagOf (s .front)))) Accept)
+    (Refuse (WrongLength (flagOf (s .front))))))
+    (Refuse NotInOrder)
+
+abbrev pub refusalOf : Tables → State → List ℕ → Verdict
+refusalOf t s xs = verdictOf s (sizedB t) (length xs)
+
+-- ---- the advance: the saved context's bytes, not as last, and then the chunk's
+unfoldable pub placesBy : Tables → Bool → List Place → Reaches → List Place
+placesBy t last ps none = ps
+placesBy t last ps (some before part) = feedAll t last part (feedAll t false before ps)
+
+unfoldable pub advanceOf : Tables → State → List ℕ → Bool → State
+advanceOf t s xs last = record { front = frontOf (s .front) xs last; places = placesBy t last (s .places) (reachesOf (s .front) xs) }
+
+-- ---- a feed: refused, and the state as before; or accepted
+abbrev pub fed : State → Reply → Fed
+fed s r = record { state = s; reply = r }
+
+abbrev pub accepted : State → Fed
+accepted s = fed s (Accepted (flagOf (s .front)))
+
+unfoldable pub feedBy : Tables → State → List ℕ → Bool → Verdict → Fed
+feedBy t s xs last (Refuse r) = fed s r
+feedBy t s xs last Accept = accepted (advanceOf t s xs last)
+
+abbrev pub feedOf : Tables → State → List ℕ → Bool → Fed
+feedOf t s xs last = feedBy t s xs last (refusalOf t s xs)
+
+-- ---- what the code keeps
+-- what passed the tests
+pub record Fit (t : Tables) (s : State) (xs : List ℕ) : Type 0 where
+  pub sized : Sized t
+  pub in-order : InOrder s
+  pub going : s .front .closed ≡ false
+  pub short : s .front .bytes + length xs ≤ limit
+
+-- with any reply but 4 the state is in order
+abbrev pub StaysIn : Reply → State → Type 0
+StaysIn (Accepted flag) s = InOrder s
+StaysIn (Closed flag) s = InOrder s
+StaysIn (WrongLength flag) s = InOrder s
+StaysIn (TooLong flag) s = InOrder s
+StaysIn NotInOrder s = Unit {0}

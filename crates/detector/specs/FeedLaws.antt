@@ -1,0 +1,191 @@
+-- Each way through a feed: the reply table, and what is left. Assumes nothing.
+use mathlib.Core.Path.{_≡_, refl, sym, ap, subst, _∙_}
+use mathlib.Core.Bool.{Bool, true, false, cond, not}
+use mathlib.Core.List.{List, [], _∷_, _++_}
+use Prim.Native.Nat.{ℕ, _+_, _-_, _<_, _≤_}
+use native.Mathlib.Nat.{add-zero, zero-add}
+use native.Mathlib.Omega.{arith}
+use lib.Dec.{ltb}
+use lib.ListN.{length, take, drop, length-drop}
+use borrow.Author.Tests.{ltb-false, lt-ltb, le-ltb}
+use Rattle.laws.specs.Limit.{limit}
+use Rattle.laws.specs.Lists.{count, count-append}
+use Rattle.context.specs.Context.{bytesOf}
+use Rattle.context.specs.ContextLaws.{bytes-most}
+use Rattle.context.specs.declared.Context.{Context}
+use Rattle.context.specs.Head.{nonAsciiCount}
+use Rattle.kinds.specs.Tables.{Tables, Sized, sizedB}
+use Rattle.kinds.specs.TablesLaws.{sized-true}
+use Rattle.places.specs.Order.{SlateFor}
+use Rattle.places.specs.Slate.{feedAll, slated, slatedOf, AllKept, KeptIf}
+use Rattle.places.specs.SlateLaws.{slated-fit, fed-kept, feed-all-nil, nil-kept, fed-slate, slate-more, slate-still}
+use Rattle.places.specs.declared.place.Place.{Place}
+use Rattle.places.specs.declared.slate.Slated.{Slated}
+use Rattle.detector.specs.Feed.{verdictOf, refusalOf, placesBy, advanceOf, fed, accepted, feedBy, feedOf, Fit, StaysIn}
+use Rattle.detector.specs.Front.{flagOf, triggered, triggerOf, Reaches, none, some, reachesBy, reachesOf, bytesIn, counted, uncounted, frontOf, dueAs, DueBy}
+use Rattle.detector.specs.FrontLaws.{plain-count}
+use Rattle.detector.specs.Order.{InOrder, stateB}
+use Rattle.detector.specs.OrderLaws.{order-true, KeptBy, advance-in-order}
+use Rattle.detector.specs.declared.feed.Fed.{Fed}
+use Rattle.detector.specs.declared.feed.Reply.{Reply}
+use Rattle.detector.specs.declared.feed.Reply.the-variants.{Accepted, Closed, WrongLength, TooLong, NotInOrder}
+use Rattle.detector.specs.declared.feed.Verdict.{Verdict}
+use Rattle.detector.specs.declared.feed.Verdict.the-variants.{Accept, Refuse}
+use Rattle.detector.specs.declared.front.Due.{Due}
+use Rattle.detector.specs.declared.front.Due.the-variants.{Nothing, Part, After}
+use Rattle.detector.specs.declared.front.Front.{Front}
+use Rattle.detector.specs.declared.state.State.{State}
+
+pub off : (t : Bool) → not t ≡ true → t ≡ false
+off true e = sym e
+off false e = refl
+
+pub on : (t : Bool) → not t ≡ false → t ≡ true
+on true e = refl
+on false e = sym e
+
+-- ---- the tests, one after the other
+module _ (s : State) (sized : Bool) (n : ℕ) where
+  pub judged-order : stateB s ≡ false → Refuse NotInOrder ≡ verdictOf s sized n
+  unfolding verdictOf
+  judged-order e = rw e
+
+  module _ (a : stateB s ≡ true) where
+    pub judged-closed : s .front .closed ≡ true → Refuse (Closed (flagOf (s .front))) ≡ verdictOf s sized n
+    unfolding verdictOf
+    judged-closed e = rw (a, e)
+
+    module _ (b : s .front .closed ≡ false) where
+      pub judged-length : sized ≡ false → Refuse (WrongLength (flagOf (s .front))) ≡ verdictOf s sized n
+      unfolding verdictOf
+      judged-length e = rw (a, b, e)
+
+      module _ (c : sized ≡ true) where
+        pub judged-long : limit - s .front .bytes < n → Refuse (TooLong (flagOf (s .front))) ≡ verdictOf s sized n
+        unfolding verdictOf
+        judged-long h = rw (a, b, c, lt-ltb (limit - s .front .bytes) n h)
+
+        pub judged-accept : n ≤ limit - s .front .bytes → Accept ≡ verdictOf s sized n
+        unfolding verdictOf
+        judged-accept h = rw (a, b, c, le-ltb (limit - s .front .bytes) n h)
+
+-- ---- refused: in order, unless that was the reason
+no : {A : Type 0} {r : Reply} → Accept ≡ Refuse r → A
+no e = absurd (let q : _≡_ {A = ℕ} 0 1 = cc in omega arith)
+
+no-accept : {A : Type 0} {r : Reply} → Refuse r ≡ Accept → A
+no-accept e = absurd (let q : _≡_ {A = ℕ} 0 1 = cc in omega arith)
+
+same : {x y : Reply} → Refuse x ≡ Refuse y → x ≡ y
+same e = cc
+
+module _ (s : State) (n : ℕ) where
+  refused-at : (a b c d : Bool) (r : Reply) → stateB s ≡ a → cond a (cond b (Refuse (Closed (flagOf (s .front)))) (cond c (cond d (Refuse (TooLong (flagOf (s .front)))) Accept) (Refuse (WrongLength (flagOf (s .front)))))) (Refuse NotInOrder) ≡ Refuse r → StaysIn r s
+  refused-at false b c d r e q = subst (λ (x : Reply). StaysIn x s) (same q) tt
+  refused-at true true c d r e q = subst (λ (x : Reply). StaysIn x s) (same q) (order-true s e)
+  refused-at true false false d r e q = subst (λ (x : Reply). StaysIn x s) (same q) (order-true s e)
+  refused-at true false true true r e q = subst (λ (x : Reply). StaysIn x s) (same q) (order-true s e)
+  refused-at true false true false r e q = no q
+
+  pub refused-stays : (sized : Bool) (r : Reply) → Refuse r ≡ verdictOf s sized n → StaysIn r s
+  unfolding verdictOf
+  refused-stays sized r q = refused-at (stateB s) (s .front .closed) sized (ltb (limit - s .front .bytes) n) r refl (sym q)
+
+-- ---- accepted: what the tests have shown
+module _ (t : Tables) (s : State) (xs : List ℕ) where
+  accept-at : (a b c d : Bool) → stateB s ≡ a → s .front .closed ≡ b → sizedB t ≡ c → ltb (limit - s .front .bytes) (length xs) ≡ d → cond a (cond b (Refuse (Closed (flagOf (s .front)))) (cond c (cond d (Refuse (TooLong (flagOf (s .front)))) Accept) (Refuse (WrongLength (flagOf (s .front)))))) (Refuse NotInOrder) ≡ Accept → Fit t s xs
+  accept-at false b c d p q r u e = no-accept e
+  accept-at true true c d p q r u e = no-accept e
+  accept-at true false false d p q r u e = no-accept e
+  accept-at true false true true p q r u e = no-accept e
+  accept-at true false true false p q r u e =
+      let o = order-true s p in
+      record { sized = sized-true t r; in-order = o; going = q; short = omega (arith, ltb-false (limit - s .front .bytes) (length xs) u, o .front .most) }
+
+  pub accept-fit : Accept ≡ refusalOf t s xs → Fit t s xs
+  unfolding verdictOf
+  accept-fit e = accept-at (stateB s) (s .front .closed) (sizedB t) (ltb (limit - s .front .bytes) (length xs)) refl refl refl refl (sym e)
+
+-- ---- the whole
+module _ (t : Tables) (s : State) (xs : List ℕ) (last : Bool) where
+  pub feed-refused : (r : Reply) → Refuse r ≡ refusalOf t s xs → fed s r ≡ feedOf t s xs last
+  unfolding feedBy
+  feed-refused r e = rw (sym e)
+
+  pub feed-accepted : Accept ≡ refusalOf t s xs → accepted (advanceOf t s xs last) ≡ feedOf t s xs last
+  unfolding feedBy
+  feed-accepted e = rw (sym e)
+
+-- ---- the advance
+module _ (t : Tables) (s : State) (xs : List ℕ) (last : Bool) (fit : Fit t s xs) where
+  -- what the code's answer d says
+  module _ (d : Due) (due : DueBy (s .front .context) (triggerOf (s .front) xs) d) where
+    abbrev Result : State → Type 0
+    Result r = (r ≡ advanceOf t s xs last) × InOrder r
+
+    -- from the reach that d stands for, and what the code knows of the places
+    advanced : (x : Reaches) → dueAs (s .front .context) xs d ≡ x → KeptBy t last (s .places) x → Result (record { front = counted (uncounted (s .front) xs last (triggerOf (s .front) xs)) (bytesIn x); places = placesBy t last (s .places) x })
+    unfolding advanceOf
+    advanced x e k =
+        let q : x ≡ reachesOf (s .front) xs = sym e ∙ due xs in
+        let r : record { front = counted (uncounted (s .front) xs last (triggerOf (s .front) xs)) (bytesIn x); places = placesBy t last (s .places) x } ≡ advanceOf t s xs last = rw q in
+        (r, subst InOrder (sym r) (advance-in-order t s xs last fit (rw q at k)))
+
+    -- nothing reaches the places
+    counted-nil : (f : Front) → counted f [] ≡ f
+    unfolding count
+    counted-nil f = rw add-zero
+
+    pub way-nothing : d ≡ Nothing → (next : Front) → next ≡ uncounted (s .front) xs last (triggerOf (s .front) xs) → Result (record { front = next; places = s .places })
+    unfolding dueAs placesBy
+    way-nothing q next e =
+        let f = uncounted (s .front) xs last (triggerOf (s .front) xs) in
+        subst (λ (x : Front). Result (record { front = x; places = s .places })) (counted-nil f ∙ sym e) (advanced none (rw q) tt)
+
+    -- the chunk from n on
+    module _ (n : ℕ) (q : d ≡ Part n) (part : List ℕ) (from : part ≡ drop n xs) where
+      slate-before : SlateFor (s .front .bytes) false (triggered (s .front)) (s .places)
+      slate-before = rw (fit .going) at (fit .in-order .slate)
+
+      part-short : length part ≤ limit
+      part-short = rw (from, length-drop) (omega (arith, fit .short))
+
+      pub way-part : (next front : Front) (r : Slated) → next ≡ uncounted (s .front) xs last (triggerOf (s .front) xs) → front ≡ counted next part → r ≡ slatedOf t last part (s .places) → KeptIf (r .fit) t last part (s .places) → Result (record { front = front; places = r .places })
+      unfolding dueAs placesBy
+      way-part next front r a b e k =
+          let z = e ∙ slated-fit t part (s .places) last (triggered (s .front)) (s .front .bytes) (fit .sized) part-short slate-before in
+          let nil = feed-all-nil t (s .places) in
+          let kept : AllKept t last part (s .places) = fed-kept t last part (s .places) (feedAll t last part (s .places)) r z k in
+          let places : feedAll t last part (feedAll t false [] (s .places)) ≡ r .places = ap (feedAll t last part) nil ∙ sym (ap (λ (x : Slated). x .places) z) in
+          let fronts : counted (uncounted (s .front) xs last (triggerOf (s .front) xs)) part ≡ front = ap (λ (f : Front). counted f part) (sym a) ∙ sym b in
+          subst (λ (x : Front). Result (record { front = x; places = r .places })) fronts
+          (subst (λ (ps : List Place). Result (record { front = counted (uncounted (s .front) xs last (triggerOf (s .front) xs)) part; places = ps })) places
+          (advanced (some [] part) (rw (q, from)) (nil-kept t 0 (s .places), rw nil kept)))
+
+    -- the saved context, and then the whole chunk
+    module _ (k : ℕ) (q : d ≡ After k) (lent : take k (s .front .context .first ∷ s .front .context .second ∷ []) ≡ bytesOf (s .front .context)) (new : triggered (s .front) ≡ false) (before : List ℕ) (saved : before ≡ take k (s .front .context .first ∷ s .front .context .second ∷ [])) where
+      unfed : SlateFor 0 false false (s .places)
+      unfed = slate-still (s .front .bytes) 0 false (s .places) (omega arith) (rw (fit .going, new) at (fit .in-order .slate))
+
+      before-short : length before ≤ 2
+      before-short = rw (saved, lent) (bytes-most (s .front .context))
+
+      -- the context is ASCII
+      before-uncounted : (f : Front) → counted f (before ++ xs) ≡ counted f xs
+      before-uncounted f = rw (saved, lent, count-append, plain-count (bytesOf (s .front .context)) (fit .in-order .front .saved .plain), zero-add)
+
+      pub way-after : (next front : Front) (warm r : Slated) → next ≡ uncounted (s .front) xs last (triggerOf (s .front) xs) → front ≡ counted next xs → warm ≡ slatedOf t false before (s .places) → KeptIf (warm .fit) t false before (s .places) → r ≡ slatedOf t last xs (warm .places) → KeptIf (r .fit) t last xs (warm .places) → Result (record { front = front; places = r .places })
+      unfolding dueAs placesBy
+      way-after next front warm r a b e k f l =
+          let y = e ∙ slated-fit t before (s .places) false false 0 (fit .sized) (omega (arith, before-short)) unfed in
+          let hot = feedAll t false before (s .places) in
+          let first : AllKept t false before (s .places) = fed-kept t false before (s .places) hot warm y k in
+          let w : warm .places ≡ feedAll t false before (s .places) = ap (λ (x : Slated). x .places) y in
+          let slate = fed-slate t false false before 0 (s .places) (omega (arith, before-short)) first unfed in
+          let z = rw w at f ∙ slated-fit t xs (feedAll t false before (s .places)) last true (0 + length before) (fit .sized) (omega (arith, fit .short)) slate in
+          let second : AllKept t last xs (feedAll t false before (s .places)) = fed-kept t last xs hot (feedAll t last xs hot) r z (rw w at l) in
+          let places : feedAll t last xs (feedAll t false before (s .places)) ≡ r .places = sym (ap (λ (x : Slated). x .places) z) in
+          let plain : counted (uncounted (s .front) xs last (triggerOf (s .front) xs)) (before ++ xs) ≡ front = before-uncounted (uncounted (s .front) xs last (triggerOf (s .front) xs)) ∙ (ap (λ (f : Front). counted f xs) (sym a) ∙ sym b) in
+          subst (λ (x : Front). Result (record { front = x; places = r .places })) plain
+          (subst (λ (ps : List Place). Result (record { front = counted (uncounted (s .front) xs last (triggerOf (s .front) xs)) (before ++ xs); places = ps })) places
+          (advanced (some before xs) (rw (q, saved)) (first, second)))

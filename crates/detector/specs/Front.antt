@@ -1,0 +1,132 @@
+-- The front end: document 01's four rules. Assumes nothing.
+use mathlib.Core.Path.{_≡_}
+use mathlib.Core.Bool.{Bool, true, false, cond, _||_}
+use mathlib.Core.List.{List, [], _∷_, _++_}
+use Prim.Native.Nat.{ℕ, _+_, _-_, _≤_}
+use lib.Dec.{ltb}
+use lib.ListN.{length, take, drop}
+use Rattle.laws.specs.Limit.{limit}
+use Rattle.context.specs.Context.{bytesOf, contextOf, pushOf}
+use Rattle.context.specs.Head.{scanOf, nonAsciiCount}
+use Rattle.context.specs.declared.Context.{Context}
+use Rattle.context.specs.declared.Scanned.{Scanned}
+use Rattle.context.specs.declared.Scanned.the-variants as scanned
+use Rattle.detector.specs.declared.front.Due.{Due}
+use Rattle.detector.specs.declared.front.Due.the-variants.{Nothing, Part, After}
+use Rattle.detector.specs.declared.front.Front.{Front}
+use Rattle.detector.specs.declared.front.Trigger.{Trigger}
+use Rattle.detector.specs.declared.front.Trigger.the-variants.{Earlier, Escape, NonAscii, Nowhere}
+
+abbrev pub fresh : Front
+fresh = record { context = contextOf []; «esc_seen» = false; «non_ascii_seen» = 0; closed = false; bytes = 0 }
+
+-- whether any non-ASCII byte has reached the places so far
+abbrev pub flagOf : Front → Bool
+flagOf f = ltb 0 (f .«non_ascii_seen»)
+
+abbrev pub triggered : Front → Bool
+triggered f = f .«esc_seen» || flagOf f
+
+-- ---- 1. before any trigger, the scan stops at the first byte that is 0x1B or non-ASCII
+abbrev pub foundAs : Scanned → Trigger
+foundAs (scanned.Escape n) = Escape n
+foundAs (scanned.NonAscii n) = NonAscii n
+foundAs scanned.End = Nowhere
+
+unfoldable pub triggerOf : Front → List ℕ → Trigger
+triggerOf f xs = cond (triggered f) Earlier (foundAs (scanOf xs))
+
+-- ---- 1 to 3. which bytes reach the places: none; or bytes of the saved context, not as last, and then bytes of the chunk
+pub data Reaches : Type 0 where
+  none : Reaches
+  some : (before part : List ℕ) → Reaches
+
+-- at offset 0 or 1, the saved context and the whole chunk; at 2 or more, the chunk from offset minus 2
+unfoldable pub reachesAt : Context → List ℕ → ℕ → Reaches
+reachesAt c xs n = cond (ltb n 2) (some (bytesOf c) xs) (some [] (drop (n - 2) xs))
+
+-- after a trigger all chunks whole
+unfoldable pub reachesBy : Context → List ℕ → Trigger → Reaches
+reachesBy c xs Earlier = some [] xs
+reachesBy c xs (Escape n) = reachesAt c xs n
+reachesBy c xs (NonAscii n) = reachesAt c xs n
+reachesBy c xs Nowhere = none
+
+abbrev pub reachesOf : Front → List ℕ → Reaches
+reachesOf f xs = reachesBy (f .context) xs (triggerOf f xs)
+
+abbrev pub bytesIn : Reaches → List ℕ
+bytesIn none = []
+bytesIn (some before part) = before ++ part
+
+-- ---- 1 and 2. the saved context: the chunk goes into it; or it is emptied; or it stays as it was
+unfoldable pub contextAt : Context → ℕ → Context
+contextAt c n = cond (ltb n 2) (contextOf []) c
+
+unfoldable pub contextBy : Context → List ℕ → Trigger → Context
+contextBy c xs Earlier = c
+contextBy c xs (Escape n) = contextAt c n
+contextBy c xs (NonAscii n) = contextAt c n
+contextBy c xs Nowhere = pushOf c xs
+
+-- ---- 3. the escape flag is set only when 0x1B was the trigger
+unfoldable pub escBy : Bool → Trigger → Bool
+escBy e Earlier = e
+escBy e (Escape n) = true
+escBy e (NonAscii n) = e
+escBy e Nowhere = e
+
+-- ---- 4. the non-ASCII count grows by the bytes at or above 0x80 that are fed
+abbrev pub counted : Front → List ℕ → Front
+counted f part = record { context = f .context; «esc_seen» = f .«esc_seen»; «non_ascii_seen» = f .«non_ascii_seen» + nonAsciiCount part; closed = f .closed; bytes = f .bytes }
+
+abbrev pub uncounted : Front → List ℕ → Bool → Trigger → Front
+uncounted f xs last g =
+    record { context = contextBy (f .context) xs g; «esc_seen» = escBy (f .«esc_seen») g; «non_ascii_seen» = f .«non_ascii_seen»; closed = last; bytes = f .bytes + length xs }
+
+-- the front after a chunk
+abbrev pub frontOf : Front → List ℕ → Bool → Front
+frontOf f xs last = counted (uncounted f xs last (triggerOf f xs)) (bytesIn (reachesOf f xs))
+
+-- ---- the code's answer: an offset, or how many bytes of the context
+unfoldable pub dueAs : Context → List ℕ → Due → Reaches
+dueAs c xs Nothing = none
+dueAs c xs (Part n) = some [] (drop n xs)
+dueAs c xs (After n) = some (take n (c .first ∷ c .second ∷ [])) xs
+
+abbrev pub DueAt : Context → ℕ → Due → Type 0
+DueAt c n d = (xs : List ℕ) → dueAs c xs d ≡ reachesAt c xs n
+
+abbrev pub DueBy : Context → Trigger → Due → Type 0
+DueBy c g d = (xs : List ℕ) → dueAs c xs d ≡ reachesBy c xs g
+
+-- where the trigger stands in the chunk
+abbrev pub offsetOf : Trigger → ℕ
+offsetOf Earlier = 0
+offsetOf (Escape n) = n
+offsetOf (NonAscii n) = n
+offsetOf Nowhere = 0
+
+-- it stands in this chunk
+abbrev pub Here : Trigger → Type 0
+Here Earlier = ⊥
+Here (Escape n) = Unit {0}
+Here (NonAscii n) = Unit {0}
+Here Nowhere = ⊥
+
+-- the code's offset and number are within the chunk and the context
+abbrev pub WithinAt : Context → ℕ → Due → Type 0
+WithinAt c at Nothing = Unit {0}
+WithinAt c at (Part n) = n ≤ at
+WithinAt c at (After k) = k ≡ length (bytesOf c)
+
+abbrev pub WithinBy : Context → Trigger → Due → Type 0
+WithinBy c g Nothing = Unit {0}
+WithinBy c g (Part n) = n ≤ offsetOf g
+WithinBy c g (After k) = (k ≡ length (bytesOf c)) × Here g
+
+-- counts that so many bytes more do not make wrap
+pub record Roomy (f : Front) (bytes : ℕ) : Type 0 where
+  pub accepted : f .bytes ≤ limit
+  pub seen : f .«non_ascii_seen» ≤ limit
+  pub short : bytes ≤ limit

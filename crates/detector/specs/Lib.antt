@@ -1,0 +1,11 @@
+pub mod Feed
+pub mod FeedLaws
+pub mod Front
+pub mod FrontLaws
+pub mod Leader
+pub mod LeaderLaws
+pub mod Order
+pub mod OrderLaws
+pub mod State
+pub mod Stream
+pub mod StreamLaws

@@ -1,0 +1,21 @@
+// Standard input, piece by piece.
+ghost use Prim.Native.Nat.{_≤_};
+ghost use lib.ListN.{length};
+use crate::number;
+use libc::STDIN_FILENO;
+
+// The next byte of the input, or 256 at its end.
+pub(crate) fn byte() -> usize {
+    let mut one = [0u8; 1];
+    if io::read_full(STDIN_FILENO, &mut one) != 1 {
+        return 256;
+    }
+    number::index(one[0])
+}
+
+// The next bytes, into the beginning of a buffer: how many there were.
+pub(crate) fn part(buf: &mut [u8], len: usize) -> usize
+    requires { ⌜ len ≤ length (now buf) ⌝ }
+{
+    io::read_full(STDIN_FILENO, &mut buf[0..len])
+}

@@ -1,0 +1,86 @@
+-- A machine stays of its kind. Assumes nothing.
+use mathlib.Core.Path.{_≡_, refl, sym, ap, _∙_}
+use mathlib.Core.Bool.{Bool, true, false}
+use mathlib.Core.List.{List}
+use Prim.Native.Nat.{ℕ, _+_}
+use lib.IntN.{ℤ}
+use Rattle.laws.specs.Carried.{carried, Holds, run-holds}
+use Rattle.laws.specs.Run.{Out, none, live, run}
+use Rattle.kinds.specs.Kinds.{kindOf, freshIn, stepOf, closeOf}
+use Rattle.kinds.specs.Sound.{takesSpace, reachOf}
+use Rattle.kinds.specs.Tables.{Singles, Tables}
+use Rattle.kinds.specs.declared.machine.Machine.{Machine}
+use Rattle.kinds.specs.declared.machine.Machine.the-variants.{Utf8, Iso2022Jp, EucKr, Big5, Caseless, Logical, Visual, ArabicFrench}
+
+-- the same fresh machine, and so the same kind
+abbrev pub Alike : Machine → Machine → Type 0
+Alike m k = freshIn k ≡ freshIn m
+
+kind-fresh : (m : Machine) → kindOf (freshIn m) ≡ kindOf m
+unfolding kindOf freshIn
+kind-fresh (Utf8 m) = refl
+kind-fresh (Iso2022Jp m) = refl
+kind-fresh (EucKr m) = refl
+kind-fresh (Big5 m) = refl
+kind-fresh (Caseless m) = refl
+kind-fresh (Logical m) = refl
+kind-fresh (Visual m) = refl
+kind-fresh (ArabicFrench m) = refl
+
+pub fresh-alike : (m : Machine) → Alike m (freshIn m)
+unfolding freshIn
+fresh-alike (Utf8 m) = refl
+fresh-alike (Iso2022Jp m) = refl
+fresh-alike (EucKr m) = refl
+fresh-alike (Big5 m) = refl
+fresh-alike (Caseless m) = refl
+fresh-alike (Logical m) = refl
+fresh-alike (Visual m) = refl
+fresh-alike (ArabicFrench m) = refl
+
+pub alike-kind : (m k : Machine) → Alike m k → kindOf k ≡ kindOf m
+alike-kind m k e = sym (kind-fresh k) ∙ (ap kindOf e ∙ kind-fresh m)
+
+pub alike-reach : (m k : Machine) (n : ℕ) (closed : Bool) → Alike m k → reachOf k n closed ≡ reachOf m n closed
+unfolding reachOf takesSpace
+alike-reach m k n closed e = rw (alike-kind m k e)
+
+pub reach-open : (m : Machine) (n : ℕ) → reachOf m n false ≡ n
+unfolding reachOf
+reach-open m n = refl
+
+-- ---- an outcome that is carried under a kind
+carried-alike : {S : Type 0} (wrap : S → Machine) (m : Machine) → ((x : S) → Alike m (wrap x)) → (o : Out (Unit {0}) S) → Holds (Alike m) (carried wrap o)
+unfolding carried
+carried-alike wrap m f (none d) = tt
+carried-alike wrap m f (live x s) = f x
+
+module _ (t : Tables) where
+  step-alike : (m : Machine) (b : ℕ) → Holds (Alike m) (stepOf t m b)
+  unfolding stepOf freshIn
+  step-alike (Utf8 m) b = carried-alike Utf8 (Utf8 m) (λ x. refl) _
+  step-alike (Iso2022Jp m) b = carried-alike Iso2022Jp (Iso2022Jp m) (λ x. refl) _
+  step-alike (EucKr m) b = carried-alike EucKr (EucKr m) (λ x. refl) _
+  step-alike (Big5 m) b = carried-alike Big5 (Big5 m) (λ x. refl) _
+  step-alike (Caseless m) b = carried-alike Caseless (Caseless m) (λ x. refl) _
+  step-alike (Logical m) b = carried-alike Logical (Logical m) (λ x. refl) _
+  step-alike (Visual m) b = carried-alike Visual (Visual m) (λ x. refl) _
+  step-alike (ArabicFrench m) b = carried-alike ArabicFrench (ArabicFrench m) (λ x. refl) _
+
+  holds-alike : (m k : Machine) → Alike m k → (o : Out (Unit {0}) Machine) → Holds (Alike k) o → Holds (Alike m) o
+  holds-alike m k e (none d) h = tt
+  holds-alike m k e (live x s) h = h ∙ e
+
+  pub run-alike : (m : Machine) (s : ℤ) (xs : List ℕ) → Holds (Alike m) (run (stepOf t) (live m s) xs)
+  run-alike m s xs = run-holds (stepOf t) (λ (n : ℕ). Alike m) (λ (n : ℕ) (k : Machine) (b : ℕ) (e : Alike m k). holds-alike m k e (stepOf t k b) (step-alike k b)) 0 (live m s) xs refl
+
+pub close-alike : (s : Singles) (w : List ℤ) (m : Machine) → Holds (Alike m) (closeOf s w m)
+unfolding closeOf freshIn
+close-alike s w (Utf8 m) = carried-alike Utf8 (Utf8 m) (λ x. refl) _
+close-alike s w (Iso2022Jp m) = carried-alike Iso2022Jp (Iso2022Jp m) (λ x. refl) _
+close-alike s w (EucKr m) = carried-alike EucKr (EucKr m) (λ x. refl) _
+close-alike s w (Big5 m) = carried-alike Big5 (Big5 m) (λ x. refl) _
+close-alike s w (Caseless m) = carried-alike Caseless (Caseless m) (λ x. refl) _
+close-alike s w (Logical m) = carried-alike Logical (Logical m) (λ x. refl) _
+close-alike s w (Visual m) = carried-alike Visual (Visual m) (λ x. refl) _
+close-alike s w (ArabicFrench m) = carried-alike ArabicFrench (ArabicFrench m) (λ x. refl) _

@@ -1,0 +1,9 @@
+pub mod Fresh
+pub mod FreshLaws
+pub mod KindLaws
+pub mod Kinds
+pub mod KindsLaws
+pub mod Sound
+pub mod SoundLaws
+pub mod Tables
+pub mod TablesLaws

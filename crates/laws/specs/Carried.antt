@@ -1,0 +1,65 @@
+-- A machine held in a larger one: its outcomes and its runs are carried over. And what a run keeps of a record. Assumes nothing.
+use mathlib.Core.Path.{_≡_, refl, sym, ap, _∙_}
+use mathlib.Core.List.{List, [], _∷_}
+use Prim.Native.Nat.{ℕ, suc, _+_}
+use native.Mathlib.Nat.{add-zero}
+use native.Mathlib.Omega.{arith}
+use lib.IntN.{ℤ}
+use lib.ListN.{length}
+use Rattle.laws.specs.Run.{Out, none, live, plus, feed, run}
+use Rattle.laws.specs.Still.{ended}
+
+module _ {D S T : Type 0} (wrap : S → T) where
+  unfoldable pub carried : Out D S → Out D T
+  carried (none d) = none d
+  carried (live m s) = live (wrap m) s
+
+  carried-plus : (k : ℤ) (o : Out D S) → carried (plus k o) ≡ plus k (carried o)
+  unfolding carried plus
+  carried-plus k (none d) = refl
+  carried-plus k (live m s) = refl
+
+  module _ (inner : S → ℕ → Out D S) (outer : T → ℕ → Out D T) (same : (m : S) (b : ℕ) → outer (wrap m) b ≡ carried (inner m b)) where
+    feed-carried : (o : Out D S) (b : ℕ) → feed outer (carried o) b ≡ carried (feed inner o b)
+    unfolding carried feed
+    feed-carried (none d) b = refl
+    feed-carried (live m s) b = ap (plus s) (same m b) ∙ sym (carried-plus s (inner m b))
+
+    pub run-carried : (o : Out D S) (xs : List ℕ) → run outer (carried o) xs ≡ carried (run inner o xs)
+    unfolding run
+    run-carried o [] = refl
+    run-carried o (x ∷ xs) = ap (λ (p : Out D T). run outer p xs) (feed-carried o x) ∙ run-carried (feed inner o x) xs
+
+-- ---- P of the record, where the outcome is live
+abbrev pub Holds : {D S : Type 0} → (S → Type 0) → Out D S → Type 0
+Holds P (none d) = Unit {0}
+Holds P (live m s) = P m
+
+pub holds-plus : {D S : Type 0} (P : S → Type 0) (k : ℤ) (o : Out D S) → Holds P o → Holds P (plus k o)
+unfolding plus
+holds-plus P k (none d) h = tt
+holds-plus P k (live m s) h = h
+
+-- from what is known of each record that the outcome can be live with
+pub holds-all : {D S : Type 0} (P : S → Type 0) (o : Out D S) → ((m : S) (s : ℤ) → o ≡ live m s → P m) → Holds P o
+holds-all P (none d) h = tt
+holds-all P (live m s) h = h m s refl
+
+pub holds-carried : {D S T : Type 0} (wrap : S → T) (P : T → Type 0) (o : Out D S) → Holds (λ (m : S). P (wrap m)) o → Holds P (carried wrap o)
+unfolding carried
+holds-carried wrap P (none d) h = tt
+holds-carried wrap P (live m s) h = h
+
+-- P n is what holds of a record after n bytes
+module _ {D S : Type 0} (step : S → ℕ → Out D S) (P : ℕ → S → Type 0) (keeps : (n : ℕ) (m : S) (b : ℕ) → P n m → Holds (P (n + 1)) (step m b)) where
+  feed-holds : (n : ℕ) (o : Out D S) (b : ℕ) → Holds (P n) o → Holds (P (n + 1)) (feed step o b)
+  unfolding feed
+  feed-holds n (none d) b h = tt
+  feed-holds n (live m s) b h = holds-plus (P (n + 1)) s (step m b) (keeps n m b h)
+
+  pub run-holds : (n : ℕ) (o : Out D S) (xs : List ℕ) → Holds (P n) o → Holds (P (n + length xs)) (run step o xs)
+  unfolding run
+  run-holds n o [] h = rw add-zero h
+  run-holds n o (x ∷ xs) h =
+      let e : n + 1 + length xs ≡ n + suc (length xs) = omega arith in
+      rw e at (run-holds (n + 1) (feed step o x) xs (feed-holds n o x h))

@@ -1,0 +1,3 @@
+pub mod Logical
+pub mod LogicalLaws
+pub mod HeadLaws

@@ -1,0 +1,73 @@
+-- The machine of logical order: what one byte does, a part of a chunk, and the close. Assumes nothing.
+use mathlib.Core.Bool.{Bool, true, cond, not, _&&_}
+use mathlib.Core.List.{List}
+use Prim.Native.Nat.{ℕ, _≤_}
+use lib.Dec.{leb}
+use lib.IntN.{ℤ, pos, natAbs}
+use lib.ListN.{length}
+use Rattle.laws.specs.Run.{Out, none, live, run}
+use Rattle.octets.specs.Octets.{ascii}
+use Rattle.single.specs.Class.{caselessOf, alphabetic, alphabeticOf, unless255, space}
+use Rattle.laws.specs.Limit.{room}
+use Rattle.single.specs.Fit.{Common, commonB, fitB}
+use Rattle.single.specs.Lent.{Lent}
+use Rattle.single.specs.Pair.{asciiPair, gainOf}
+use Rattle.single.specs.Punctuation.{punctuationOf, countOf}
+use Rattle.single.specs.Words.{wordOf, longestOf}
+use Rattle.logical.specs.declared.Logical.{Logical}
+use Rattle.logical.specs.declared.Ran.{Ran}
+use Rattle.logical.specs.declared.Ran.the-variants.{Live, Dropped, Unfit}
+
+abbrev pub freshOf : Logical
+freshOf = record { prev = 0; «prev_ascii» = true; «plausible_punctuation» = 0; «current_word_len» = 0; «longest_word» = 0 }
+
+-- ASCII punctuation of caseless class 0 after an alphabetic class
+abbrev pub plausibleOf : List ℕ → ℕ → ℕ → ℕ → Bool
+plausibleOf marks previous current b = punctuationOf current b && alphabeticOf marks previous
+
+module _ (t : Lent) where
+  -- unless both bytes are ASCII
+  abbrev pub plausible : Logical → ℕ → Bool
+  plausible m b = not (asciiPair (m .«prev_ascii») b) && plausibleOf (t .marks) (m .prev) (caselessOf t b) b
+
+  abbrev pub nextOf : Logical → ℕ → Logical
+  nextOf m b =
+      record {
+        prev = caselessOf t b;
+        «prev_ascii» = ascii b;
+        «plausible_punctuation» = countOf (m .«plausible_punctuation») (plausible m b);
+        «current_word_len» = wordOf (m .«current_word_len») (alphabetic t b);
+        «longest_word» = longestOf (m .«current_word_len») (m .«longest_word») (alphabetic t b);
+      }
+
+  unfoldable pub stepOf : Logical → ℕ → Out (Unit {0}) Logical
+  stepOf m b = unless255 t b (live (nextOf m b) (gainOf t (m .prev) (m .«prev_ascii») b))
+
+  -- the end of the stream is a space
+  abbrev pub closeOf : Logical → Out (Unit {0}) Logical
+  closeOf m = stepOf m space
+
+-- what n bytes can have led to
+pub record Sound (n : ℕ) (m : Logical) : Type 0 where
+  pub punctuation-most : m .«plausible_punctuation» ≤ n
+  pub common : Common n (m .prev) (m .«current_word_len») (m .«longest_word»)
+
+abbrev pub soundB : ℕ → Logical → Bool
+soundB n m = leb (m .«plausible_punctuation») n && commonB n (m .prev) (m .«current_word_len») (m .«longest_word»)
+
+-- ---- the answers
+abbrev pub ranAs : Out (Unit {0}) Logical → Ran
+ranAs (none d) = Dropped
+ranAs (live m s) = Live m s
+
+unfoldable pub ranOf : Lent → Logical → List ℕ → Ran
+ranOf t m xs = cond (fitB t (soundB room m) (length xs)) (ranAs (run (stepOf t) (live m (pos 0)) xs)) Unfit
+
+unfoldable pub closedOf : Lent → Logical → Ran
+closedOf t m = cond (fitB t (soundB room m) 0) (ranAs (closeOf t m)) Unfit
+
+-- a live answer's score has at most this size
+abbrev pub Small : ℕ → Ran → Type 0
+Small c (Live m s) = natAbs s ≤ c
+Small c Dropped = Unit {0}
+Small c Unfit = Unit {0}

@@ -1,0 +1,6 @@
+pub mod Order
+pub mod OrderLaws
+pub mod Place
+pub mod PlaceLaws
+pub mod Slate
+pub mod SlateLaws

@@ -1,0 +1,256 @@
+-- The test of the places decides, and places stay in order. Assumes nothing.
+use mathlib.Core.Path.{_≡_, refl, sym, ap, subst, _∙_}
+use mathlib.Core.Bool.{Bool, true, false, cond, _&&_, _||_}
+use mathlib.Core.List.{List}
+use Prim.Native.Nat.{ℕ, _+_, _*_, _<_, _≤_}
+use native.Mathlib.Nat.{mul-le-mul-left}
+use native.Mathlib.Omega.{arith}
+use lib.Dec.{eqb, leb}
+use lib.IntN.{ℤ, pos, negsuc, natAbs, _+ℤ_}
+use lib.ListN.{length, getD, drop, length-drop}
+use borrow.Author.Tests.{eqb-true, eq-eqb, leb-true, le-leb, lt-leb}
+use Rattle.laws.specs.Carried.{carried, Holds}
+use Rattle.laws.specs.Each.{eachB, EachFrom, each-true, true-each, each-turn, each-stop, each-done}
+use Rattle.laws.specs.Limit.{limit}
+use Rattle.laws.specs.Run.{Out, none, live, plus, run}
+use Rattle.laws.specs.Sizes.{abs-add}
+use Rattle.laws.specs.Still.{Ends, ended, from-zero}
+use Rattle.laws.specs.Tests.{both, either}
+use Rattle.weights.specs.Weights.{perByte}
+use Rattle.big5.specs.Big5 as big5
+use Rattle.big5.specs.declared.Big5.{Big5 as Big5Record}
+use Rattle.euckr.specs.EucKr as euckr
+use Rattle.euckr.specs.declared.EucKr.{EucKr as EucKrRecord}
+use Rattle.iso2022jp.specs.Iso2022Jp as iso2022jp
+use Rattle.utf8.specs.Utf8 as utf-8
+use Rattle.kinds.specs.Fresh.{freshB}
+use Rattle.kinds.specs.FreshLaws.{fresh-true, true-fresh}
+use Rattle.kinds.specs.KindLaws.{Alike, fresh-alike, alike-kind, alike-reach, reach-open, run-alike, close-alike}
+use Rattle.kinds.specs.Kinds.{Outcome, kindOf, freshIn, stepOf, closeOf, WeighedIn}
+use Rattle.kinds.specs.KindsLaws.{utf-8-still, iso2022jp-still}
+use Rattle.kinds.specs.Sound.{takesSpace, reachOf, SoundFor, soundB}
+use Rattle.kinds.specs.SoundLaws.{sound-true, true-sound, sound-more, fresh-sound, run-sound, close-sound}
+use Rattle.kinds.specs.Tables.{Singles, Tables}
+use Rattle.kinds.specs.declared.machine.Machine.{Machine}
+use Rattle.kinds.specs.declared.machine.Machine.the-variants.{Utf8, Iso2022Jp, EucKr, Big5, Caseless, Logical, Visual, ArabicFrench}
+use Rattle.places.specs.Order.{ScoredFor, ZeroOrNone, FedOr, PlaceFor, SlateFor, scoredB, zeroOrNoneB, unfedB, placeB, slateB}
+use Rattle.places.specs.Place.{place, placeAs, partOf, fedFrom, feedOf, endFrom, endOf}
+use Rattle.places.specs.declared.place.Place.{Place}
+use Rattle.places.specs.declared.place.Score.{Score}
+use Rattle.places.specs.declared.place.Score.the-variants.{None, Live}
+
+-- ---- the test decides, in both directions
+scored-true : (reach : ℕ) (m : Machine) (s : Score) → scoredB reach m s ≡ true → ScoredFor reach m s
+unfolding scoredB
+scored-true reach m None e = fresh-true m e
+scored-true reach m (Live s) e = leb-true _ _ e
+
+true-scored : (reach : ℕ) (m : Machine) (s : Score) → ScoredFor reach m s → scoredB reach m s ≡ true
+unfolding scoredB
+true-scored reach m None e = true-fresh m e
+true-scored reach m (Live s) e = le-leb _ _ e
+
+abs-zero : (z : ℤ) → natAbs z ≡ 0 → z ≡ pos 0
+abs-zero (pos n) e = ap pos e
+abs-zero (negsuc n) e = absurd (omega (arith, e))
+
+zero-true : (s : Score) → zeroOrNoneB s ≡ true → ZeroOrNone s
+unfolding zeroOrNoneB
+zero-true None e = tt
+zero-true (Live s) e = abs-zero s (eqb-true _ _ e)
+
+true-zero : (s : Score) → ZeroOrNone s → zeroOrNoneB s ≡ true
+unfolding zeroOrNoneB
+true-zero None e = refl
+true-zero (Live s) e = rw e
+
+fed-true : (fed : Bool) (p : Place) → (fed || unfedB p) ≡ true → FedOr fed p
+unfolding unfedB
+fed-true true p e = tt
+fed-true false p e = let h = both _ _ e in (fresh-true (p .machine) (h .0), zero-true (p .score) (h .1))
+
+true-fed : (fed : Bool) (p : Place) → FedOr fed p → (fed || unfedB p) ≡ true
+unfolding unfedB
+true-fed true p f = refl
+true-fed false p f = rw (true-fresh (p .machine) (f .0), true-zero (p .score) (f .1))
+
+module _ (n : ℕ) (closed fed : Bool) where
+  pub place-true : (k : ℕ) (p : Place) → placeB n closed fed k p ≡ true → PlaceFor n closed fed k p
+  unfolding placeB
+  place-true k p e =
+      let a = both _ _ e in
+      let b = both _ _ (a .1) in
+      let c = both _ _ (b .1) in
+      record { kind = eqb-true _ _ (a .0); sound = sound-true n (reachOf (p .machine) n closed) (p .machine) (b .0); scored = scored-true (reachOf (p .machine) n closed) (p .machine) (p .score) (c .0); fed-or = fed-true fed p (c .1) }
+
+  pub true-place : (k : ℕ) (p : Place) → PlaceFor n closed fed k p → placeB n closed fed k p ≡ true
+  unfolding placeB
+  true-place k p o =
+      rw (eq-eqb _ _ (o .kind), true-sound n (reachOf (p .machine) n closed) (p .machine) (o .sound), true-scored (reachOf (p .machine) n closed) (p .machine) (p .score) (o .scored), true-fed fed p (o .fed-or))
+
+  pub slate-true : (ps : List Place) → slateB n closed fed ps ≡ true → SlateFor n closed fed ps
+  unfolding slateB
+  slate-true ps e = let h = both _ _ e in record { most = leb-true _ _ (h .0); each = each-true (placeB n closed fed) (PlaceFor n closed fed) place-true 0 ps (h .1) }
+
+  pub true-slate : (ps : List Place) → SlateFor n closed fed ps → slateB n closed fed ps ≡ true
+  unfolding slateB
+  true-slate ps o = rw (le-leb _ _ (o .most), true-each (placeB n closed fed) (PlaceFor n closed fed) true-place 0 ps (o .each))
+
+-- ---- for the loop of the test
+module _ (n : ℕ) (closed fed : Bool) (ps : List Place) where
+  abbrev test : ℕ → Place → Bool
+  test = placeB n closed fed
+
+  pub slate-long : limit < n → false ≡ slateB n closed fed ps
+  unfolding slateB
+  slate-long h = rw (lt-leb _ _ h)
+
+  -- the first i places passed
+  pub record Passed (i : ℕ) : Type 0 where
+    pub within : i ≤ 8
+    pub eight : length ps ≡ 8
+    pub most : n ≤ limit
+    pub rest : eachB test i (drop i ps) ≡ eachB test 0 ps
+
+  pub passed-start : length ps ≡ 8 → n ≤ limit → Passed 0
+  passed-start e h = record { within = omega arith; eight = e; most = h; rest = refl }
+
+  module _ (i : ℕ) (d : Place) (o : Passed i) (h : i < 8) where
+    inside : i < length ps
+    inside = rw (o .eight) h
+
+    pub passed-stop : placeB n closed fed i (getD ps i d) ≡ false → false ≡ slateB n closed fed ps
+    unfolding slateB
+    passed-stop e = rw (le-leb _ _ (o .most)) (each-stop test ps d i inside e ∙ o .rest)
+
+    pub passed-next : placeB n closed fed i (getD ps i d) ≡ true → Passed (i + 1)
+    passed-next e = record { within = omega arith; eight = o .eight; most = o .most; rest = each-turn test ps d i inside e ∙ o .rest }
+
+  pub passed-done : (i : ℕ) → Passed i → 8 ≤ i → true ≡ slateB n closed fed ps
+  unfolding slateB
+  passed-done i o h = rw (le-leb _ _ (o .most)) (each-done test i (drop i ps) (rw (length-drop, o .eight) (omega arith)) ∙ o .rest)
+
+-- ---- more bytes, and a close without any
+pub scored-more : (a b : ℕ) (m : Machine) (s : Score) → a ≤ b → ScoredFor a m s → ScoredFor b m s
+scored-more a b m None h o = o
+scored-more a b m (Live s) h o = let q : perByte * a ≤ perByte * b = mul-le-mul-left perByte h in omega (arith, o)
+
+pub reach-more : (m : Machine) (n k : ℕ) (closed : Bool) → n ≤ k → n ≤ reachOf m k closed
+unfolding reachOf
+reach-more m n k true h = pick (takesSpace m)
+  where
+    pick : (t : Bool) → n ≤ cond t (k + 1) k
+    pick true = omega arith
+    pick false = h
+reach-more m n k false h = h
+
+pub reach-most : (m : Machine) (n : ℕ) (closed : Bool) → reachOf m n closed ≤ n + 1
+unfolding reachOf
+reach-most m n closed = either (λ (k : ℕ). k ≤ n + 1) (closed && takesSpace m) (λ e. omega arith) (λ e. omega arith)
+
+-- a live outcome's score is at most c in size
+abbrev pub SmallOut : ℕ → Outcome → Type 0
+SmallOut c (none d) = Unit {0}
+SmallOut c (live m g) = natAbs g ≤ c
+
+-- a machine of the same kind with what it can hold and its score, or none
+module _ (n k : ℕ) (closed : Bool) (m : Machine) (kind : kindOf m ≡ k) where
+  -- an outcome's place is in order: its machine is of the kind, holds what it can, and its score is within bounds
+  pub placed : (o : Outcome) → Holds (Alike m) o → Holds (SoundFor n (reachOf m n closed)) o → SmallOut (perByte * reachOf m n closed) o → PlaceFor n closed true k (placeAs m o)
+  unfolding placeAs
+  placed (none d) a s q =
+      let e = fresh-alike m in
+      record { kind = alike-kind m (freshIn m) e ∙ kind; sound = fresh-sound n (reachOf (freshIn m) n closed) m; scored = sym e; fed-or = tt }
+  placed (live x g) a s q =
+      let e = alike-reach m x n closed a in
+      record { kind = alike-kind m x a ∙ kind; sound = rw e s; scored = rw e q; fed-or = tt }
+
+-- ---- a part of a chunk
+plus-small : (c d : ℕ) (s : ℤ) (o : Outcome) → natAbs s ≤ c → SmallOut d o → SmallOut (c + d) (plus s o)
+unfolding plus
+plus-small c d s (none x) h q = tt
+plus-small c d s (live m g) h q = omega (arith, abs-add s g)
+
+plus-holds : (P : Machine → Type 0) (s : ℤ) (o : Outcome) → Holds P o → Holds P (plus s o)
+unfolding plus
+plus-holds P s (none d) h = tt
+plus-holds P s (live m g) h = h
+
+small-more : (c d : ℕ) (o : Outcome) → c ≤ d → SmallOut c o → SmallOut d o
+small-more c d (none x) h q = tt
+small-more c d (live m g) h q = omega (arith, q)
+
+-- what the code knows of a machine's own run over a part, from the score 0
+pub record Ran (t : Tables) (xs : List ℕ) (m : Machine) : Type 0 where
+  pub small : SmallOut (perByte * length xs) (run (stepOf t) (live m (pos 0)) xs)
+  pub weighed : Holds (λ (x : Machine). WeighedIn m (t .weights)) (run (stepOf t) (live m (pos 0)) xs)
+
+module _ (t : Tables) (xs : List ℕ) (m : Machine) (ran : Ran t xs m) where
+  sound-at : (n : ℕ) (o : Outcome) → o ≡ run (stepOf t) (live m (pos 0)) xs → Holds (λ (x : Machine). WeighedIn m (t .weights)) o → SoundFor n n m → Holds (SoundFor (n + length xs) (n + length xs)) o
+  sound-at n (none d) e w h = tt
+  sound-at n (live x g) e w h = rw (sym e) at (run-sound t n xs m w h)
+
+  pub ran-sound : (n : ℕ) → SoundFor n n m → Holds (SoundFor (n + length xs) (n + length xs)) (run (stepOf t) (live m (pos 0)) xs)
+  ran-sound n h = sound-at n (run (stepOf t) (live m (pos 0)) xs) refl (ran .weighed) h
+
+  -- fed, and the stream goes on
+  pub fed-for : (n k : ℕ) (s : ℤ) → kindOf m ≡ k → SoundFor n n m → natAbs s ≤ perByte * n → PlaceFor (n + length xs) false true k (placeAs m (run (stepOf t) (live m s) xs))
+  fed-for n k s kind sound small =
+      let o = run (stepOf t) (live m (pos 0)) xs in
+      let e = reach-open m (n + length xs) in
+      let q : perByte * n + perByte * length xs ≤ perByte * reachOf m (n + length xs) false = rw e (omega arith) in
+      rw (from-zero (stepOf t) m s xs)
+      (placed (n + length xs) k false m kind (plus s (run (stepOf t) (live m (pos 0)) xs)) (plus-holds (Alike m) s o (run-alike t m (pos 0) xs)) (rw e (plus-holds (SoundFor (n + length xs) (n + length xs)) s o (ran-sound n sound))) (small-more (perByte * n + perByte * length xs) (perByte * reachOf m (n + length xs) false) (plus s o) q (plus-small (perByte * n) (perByte * length xs) s o small (ran .small))))
+
+-- ---- the end of the stream
+ends-small : {S : Type 0} (P : S → Type 0) (wrap : S → Machine) (o : Out (Unit {0}) S) → Ends P (pos 0) o → SmallOut 0 (carried wrap o)
+unfolding carried
+ends-small P wrap (none d) h = tt
+ends-small P wrap (live m g) h = rw (h .1) (omega arith)
+
+module _ (s : Singles) (w : List ℤ) where
+  -- by what it changes the score at most: by nothing, or by what a byte adds where the closing space is counted
+  pub record Room (n : ℕ) (m : Machine) : Type 0 where
+    pub more : ℕ
+    pub small : SmallOut (perByte * more) (closeOf s w m)
+    pub within : n + more ≤ reachOf m n true
+
+  room : (n : ℕ) (m : Machine) → SoundFor n n m → SmallOut perByte (closeOf s w m) → Room n m
+  unfolding closeOf reachOf takesSpace kindOf
+  room n (Utf8 m) o q = record { more = 0; small = ends-small utf-8.Sound Utf8 (utf-8.closeOf m) (utf-8-still m o); within = omega arith }
+  room n (Iso2022Jp m) o q = record { more = 0; small = ends-small iso2022jp.Sound Iso2022Jp (iso2022jp.closeOf m) (iso2022jp-still m o); within = omega arith }
+  room n (EucKr m) o q = record { more = 0; small = ends-small (λ (x : EucKrRecord). Unit {0}) EucKr (euckr.closeOf m) (either (Ends (λ (x : EucKrRecord). Unit {0}) (pos 0)) (eqb (m .lead) 0) (λ e. (tt, refl)) (λ e. tt)); within = omega arith }
+  room n (Big5 m) o q = record { more = 0; small = ends-small (λ (x : Big5Record). Unit {0}) Big5 (big5.closeOf m) (either (Ends (λ (x : Big5Record). Unit {0}) (pos 0)) (eqb (m .lead) 0) (λ e. (tt, refl)) (λ e. tt)); within = omega arith }
+  room n (Caseless m) o q = record { more = 1; small = q; within = omega arith }
+  room n (Logical m) o q = record { more = 1; small = q; within = omega arith }
+  room n (Visual m) o q = record { more = 1; small = q; within = omega arith }
+  room n (ArabicFrench m) o q = record { more = 1; small = q; within = omega arith }
+
+  reach-sum : (n : ℕ) (m : Machine) (z : ℤ) → natAbs z ≤ perByte * n → (r : Room n m) → SmallOut (perByte * reachOf m n true) (plus z (closeOf s w m))
+  reach-sum n m z h r =
+      let d = r .more in
+      let e : perByte * (n + d) ≤ perByte * reachOf m n true = mul-le-mul-left perByte (r .within) in
+      small-more (perByte * n + perByte * d) (perByte * reachOf m n true) (plus z (closeOf s w m)) (omega arith) (plus-small (perByte * n) (perByte * d) z (closeOf s w m) h (r .small))
+
+  -- a place without a score is passed over
+  pub end-passed : (n k : ℕ) (p : Place) → PlaceFor n false true k p → PlaceFor n true true k p
+  end-passed n k p o =
+      record {
+        kind = o .kind;
+        sound = sound-more n n n (reachOf (p .machine) n true) (p .machine) (omega arith) (reach-more (p .machine) n n true (omega arith)) (rw (reach-open (p .machine) n) at (o .sound));
+        scored = scored-more n (reachOf (p .machine) n true) (p .machine) (p .score) (reach-more (p .machine) n n true (omega arith)) (rw (reach-open (p .machine) n) at (o .scored));
+        fed-or = tt;
+      }
+
+  end-at : (n k : ℕ) (p : Place) → PlaceFor n false true k p → SmallOut perByte (closeOf s w (p .machine)) → (c : Score) → p .score ≡ c → PlaceFor n true true k (endFrom s w p c)
+  unfolding endFrom
+  end-at n k p o q None e = end-passed n k p o
+  end-at n k p o q (Live z) e =
+      let m = p .machine in
+      let c = closeOf s w (p .machine) in
+      let sound : SoundFor n n (p .machine) = rw (reach-open (p .machine) n) at (o .sound) in
+      let h : natAbs z ≤ perByte * n = rw (reach-open (p .machine) n, e) at (o .scored) in
+      placed n k true (p .machine) (o .kind) (plus z (closeOf s w (p .machine))) (plus-holds (Alike m) z c (close-alike s w m)) (plus-holds (SoundFor n (reachOf m n true)) z c (close-sound s w n (p .machine) sound)) (reach-sum n (p .machine) z h (room n (p .machine) sound q))
+
+  pub end-for : (n k : ℕ) (p : Place) → SmallOut perByte (closeOf s w (p .machine)) → PlaceFor n false true k p → PlaceFor n true true k (endOf s w p)
+  end-for n k p q o = end-at n k p o q (p .score) refl

@@ -1,0 +1,191 @@
+-- Each way through feeding a place, and that it stays in order. Assumes nothing.
+use mathlib.Core.Path.{_≡_, refl, sym, ap, _∙_}
+use mathlib.Core.Bool.{Bool, true, false, cond}
+use mathlib.Core.List.{List, []}
+use Prim.Native.Nat.{ℕ, _+_, _*_, _^_, _<_, _≤_}
+use native.Mathlib.Nat.{mul-le-mul-left}
+use native.Mathlib.Omega.{arith}
+use lib.IntN.{ℤ, pos, natAbs, _+ℤ_}
+use lib.ListN.{length}
+use Rattle.laws.specs.Carried.{Holds}
+use Rattle.laws.specs.Limit.{limit}
+use Rattle.laws.specs.Run.{Out, none, live, plus, run}
+use Rattle.laws.specs.Sizes.{abs-add}
+use Rattle.laws.specs.Still.{ended, from-zero}
+use Rattle.weights.specs.Weights.{perByte}
+use Rattle.kinds.specs.KindLaws.{Alike, reach-open, run-alike}
+use Rattle.kinds.specs.Kinds.{Outcome, kindOf, freshIn, stepOf, closeOf, ranAs, ranOf, closedOf, Small, WeighedIn, Weighed}
+use Rattle.kinds.specs.KindsLaws.{ran-fit, closed-fit}
+use Rattle.kinds.specs.Sound.{reachOf, SoundFor}
+use Rattle.kinds.specs.SoundLaws.{sound-more, fresh-sound}
+use Rattle.kinds.specs.Tables.{Singles, Tables, Sized}
+use Rattle.kinds.specs.declared.machine.Machine.{Machine}
+use Rattle.kinds.specs.declared.machine.Ran.{Ran as MachineRan}
+use Rattle.kinds.specs.declared.machine.Ran.the-variants as ran
+use Rattle.places.specs.Order.{ScoredFor, PlaceFor, Kept, Ended}
+use Rattle.places.specs.OrderLaws.{SmallOut, Ran, ran-sound, fed-for, end-for, end-passed, reach-more, scored-more}
+use Rattle.places.specs.Place.{place, placeAs, partOf, fedFrom, feedOf, settledOf, endFrom, endOf, FitSum, SmallScore, Closes, FitEnd, FitPart}
+use Rattle.places.specs.declared.place.Place.{Place}
+use Rattle.places.specs.declared.place.Score.{Score}
+use Rattle.places.specs.declared.place.Score.the-variants.{None, Live}
+
+-- ---- what is settled is the outcome's place
+pub settled-as : (p : Place) (s : ℤ) (o : Outcome) → settledOf p s (ranAs o) ≡ placeAs (p .machine) (plus s o)
+unfolding settledOf ranAs placeAs plus
+settled-as p s (none d) = refl
+settled-as p s (live m g) = refl
+
+-- ---- the ways through
+module _ (t : Tables) (xs : List ℕ) (p : Place) where
+  pub feed-none : (last : Bool) → p .score ≡ None → p ≡ feedOf t last xs p
+  unfolding fedFrom
+  feed-none last e = rw e
+
+  module _ (s : ℤ) (e : p .score ≡ Live s) where
+    pub feed-open : placeAs (p .machine) (run (stepOf t) (live (p .machine) s) xs) ≡ feedOf t false xs p
+    unfolding fedFrom
+    feed-open = rw e
+
+    -- closing what is settled is closing the outcome, since a machine stays of its kind
+    end-of : (o : Outcome) → Holds (Alike (p .machine)) o → endOf (t .singles) (t .weights) (placeAs (p .machine) o) ≡ placeAs (p .machine) (ended (closeOf (t .singles) (t .weights)) o)
+    unfolding placeAs endFrom ended
+    end-of (none d) a = refl
+    end-of (live n g) a = same (plus g (closeOf (t .singles) (t .weights) n))
+      where
+        same : (o : Outcome) → placeAs n o ≡ placeAs (p .machine) o
+        same (none d) = ap (λ (m : Machine). place m None) a
+        same (live m k) = refl
+
+    pub feed-last : endOf (t .singles) (t .weights) (placeAs (p .machine) (run (stepOf t) (live (p .machine) s) xs)) ≡ feedOf t true xs p
+    unfolding fedFrom
+    feed-last = rw e (end-of (run (stepOf t) (live (p .machine) s) xs) (run-alike t (p .machine) s xs))
+
+module _ (s : Singles) (w : List ℤ) (p : Place) where
+  pub end-none : p .score ≡ None → p ≡ endOf s w p
+  unfolding endFrom
+  end-none e = rw e
+
+  pub end-live : (z : ℤ) → p .score ≡ Live z → placeAs (p .machine) (plus z (closeOf s w (p .machine))) ≡ endOf s w p
+  unfolding endFrom
+  end-live z e = rw e
+
+-- an empty part that is not the last one leaves a place as it is
+pub feed-nil : (t : Tables) (p : Place) → feedOf t false [] p ≡ p
+unfolding placeAs run
+feed-nil t p = at (p .score) refl
+  where
+    at : (c : Score) → p .score ≡ c → feedOf t false [] p ≡ p
+    at None e = sym (feed-none t [] p false e)
+    at (Live s) e = sym (feed-open t [] p s e) ∙ back s e
+      where
+        back : (s : ℤ) → p .score ≡ Live s → placeAs (p .machine) (run (stepOf t) (live (p .machine) s) []) ≡ p
+        back s e = ap (place (p .machine)) (sym e)
+
+-- ---- sums
+pub fit-sum : (s : ℤ) (r : MachineRan) (c : ℕ) → Small c r → natAbs s + c < 2 ^ 63 → FitSum s r
+fit-sum s (ran.Live n g) c h l = omega (arith, h)
+fit-sum s ran.Dropped c h l = tt
+fit-sum s ran.Unfit c h l = tt
+
+-- ---- what the code's answers say of outcomes
+pub small-out : (c : ℕ) (o : Outcome) → Small c (ranAs o) → SmallOut c o
+unfolding ranAs
+small-out c (none d) h = tt
+small-out c (live m g) h = h
+
+weighed-out : (m : Machine) (w : List ℤ) (o : Outcome) → Weighed m w (ranAs o) → Holds (λ (x : Machine). WeighedIn m w) o
+unfolding ranAs
+weighed-out m w (none d) h = tt
+weighed-out m w (live n g) h = h
+
+module _ (t : Tables) (xs : List ℕ) (m : Machine) where
+  pub ran-is : (r : MachineRan) → r ≡ ranAs (run (stepOf t) (live m (pos 0)) xs) → Small (perByte * length xs) r → Weighed m (t .weights) r → Ran t xs m
+  ran-is r e s w =
+      let o = run (stepOf t) (live m (pos 0)) xs in
+      record { small = small-out (perByte * length xs) o (rw e at s); weighed = weighed-out m (t .weights) o (rw e at w) }
+
+-- ---- a part, after which the place is fit for its end
+module _ (t : Tables) (sized : Sized t) (xs : List ℕ) (short : length xs ≤ limit) (p : Place) (s : ℤ) (ran : Ran t xs (p .machine)) (sound : SoundFor limit limit (p .machine)) (small : natAbs s ≤ perByte * limit) where
+  fit-at : (o : Outcome) → Holds (SoundFor (limit + length xs) (limit + length xs)) o → SmallOut (perByte * length xs) o → FitEnd (t .singles) (t .weights) (placeAs (p .machine) (plus s o))
+  unfolding placeAs plus
+  fit-at (none d) h q = record { closes = closed-fit t sized (freshIn (p .machine)) (fresh-sound (2 * limit) (2 * limit) (p .machine)); small = tt }
+  fit-at (live m g) h q =
+      let e : perByte * length xs ≤ perByte * limit = mul-le-mul-left perByte short in
+      record { closes = closed-fit t sized m (sound-more (limit + length xs) (2 * limit) (limit + length xs) (2 * limit) m (omega arith) (omega arith) h); small = omega (arith, abs-add s g) }
+
+  pub fit-end : FitEnd (t .singles) (t .weights) (placeAs (p .machine) (run (stepOf t) (live (p .machine) s) xs))
+  fit-end =
+      rw (from-zero (stepOf t) (p .machine) s xs) (fit-at (run (stepOf t) (live (p .machine) (pos 0)) xs) (ran-sound t xs (p .machine) ran limit sound) (ran .small))
+
+-- ---- it stays in order
+module _ (t : Tables) (xs : List ℕ) (p : Place) where
+  none-for : (last : Bool) (n k : ℕ) → p .score ≡ None → PlaceFor n false true k p → PlaceFor (n + length xs) last true k p
+  none-for last n k e o =
+      let m = p .machine in
+      let far = reachOf m (n + length xs) last in
+      let r : n ≤ reachOf m (n + length xs) last = reach-more m n (n + length xs) last (omega arith) in
+      record {
+        kind = o .kind;
+        sound = sound-more n (n + length xs) n (reachOf m (n + length xs) last) m (omega arith) r (rw (reach-open m n) at (o .sound));
+        scored = scored-more n (reachOf m (n + length xs) last) m (p .score) r (rw (reach-open m n) at (o .scored));
+        fed-or = tt;
+      }
+
+  pub kept-none : (last : Bool) → p .score ≡ None → Kept t last xs p
+  kept-none last e = record { kept = λ (n k : ℕ) h o. rw (sym (feed-none t xs p last e)) (none-for last n k e o) }
+
+  module _ (s : ℤ) (e : p .score ≡ Live s) (ran : Ran t xs (p .machine)) where
+    fed-on : (n k : ℕ) → PlaceFor n false true k p → PlaceFor (n + length xs) false true k (placeAs (p .machine) (run (stepOf t) (live (p .machine) s) xs))
+    fed-on n k o =
+        let m = p .machine in
+        let h : natAbs s ≤ perByte * n = rw (reach-open m n, e) at (o .scored) in
+        fed-for t xs m ran n k s (o .kind) (rw (reach-open m n) at (o .sound)) h
+
+    pub kept-open : Kept t false xs p
+    kept-open = record { kept = λ (n k : ℕ) h o. rw (sym (feed-open t xs p s e)) (fed-on n k o) }
+
+    pub kept-last : Ended (t .singles) (t .weights) (placeAs (p .machine) (run (stepOf t) (live (p .machine) s) xs)) → Kept t true xs p
+    kept-last f = record { kept = λ (n k : ℕ) h o. rw (sym (feed-last t xs p s e)) (f .kept (n + length xs) k (fed-on n k o)) }
+
+-- ---- the ways through the code
+module _ (s : Singles) (w : List ℤ) (p : Place) where
+  pub ended-none : p .score ≡ None → Ended s w p
+  ended-none e = record { kept = λ (n k : ℕ) o. rw (sym (end-none s w p e)) (end-passed s w n k p o) }
+
+  -- a live place, closed by an answer r and settled as q
+  pub end-way : (z : ℤ) (r : MachineRan) (q : Place) → p .score ≡ Live z → r ≡ closedOf s w (p .machine) → Closes s w (p .machine) → Small perByte r → q ≡ settledOf p z r → (q ≡ endOf s w p) × Ended s w p
+  end-way z r q e a b h i =
+      let o = closeOf s w (p .machine) in
+      let f : r ≡ ranAs (closeOf s w (p .machine)) = a ∙ b in
+      (i ∙ (ap (settledOf p z) f ∙ (settled-as p z o ∙ end-live s w p z e)), record { kept = λ (n k : ℕ) x. end-for s w n k p (small-out perByte o (rw f at h)) x })
+
+-- a live place that an answer r fed, settled as q
+pub record Fed (t : Tables) (xs : List ℕ) (p : Place) (z : ℤ) (q : Place) : Type 0 where
+  pub is : q ≡ placeAs (p .machine) (run (stepOf t) (live (p .machine) z) xs)
+  pub ran : Ran t xs (p .machine)
+
+module _ (t : Tables) (xs : List ℕ) (p : Place) (fit : FitPart t p (length xs)) (z : ℤ) (e : p .score ≡ Live z) where
+  pub small-before : natAbs z ≤ perByte * limit
+  small-before = rw e at (fit .small)
+
+  pub sum-room : natAbs z + perByte * length xs < 2 ^ 63
+  sum-room =
+      let m : perByte * length xs ≤ perByte * limit = mul-le-mul-left perByte (fit .short) in
+      omega (arith, small-before)
+
+  pub fed-way : (r : MachineRan) (q : Place) → r ≡ ranOf t (p .machine) xs → Small (perByte * length xs) r → Weighed (p .machine) (t .weights) r → q ≡ settledOf p z r → Fed t xs p z q
+  fed-way r q a h v i =
+      let m = p .machine in
+      let f : r ≡ ranAs (run (stepOf t) (live (p .machine) (pos 0)) xs) = a ∙ ran-fit t (fit .sized) xs (fit .short) (p .machine) (fit .sound) in
+      record { is = i ∙ (ap (settledOf p z) f ∙ (settled-as p z (run (stepOf t) (live (p .machine) (pos 0)) xs) ∙ ap (placeAs m) (sym (from-zero (stepOf t) m z xs)))); ran = ran-is t xs m r f h v }
+
+  module _ (q : Place) (fed : Fed t xs p z q) where
+    pub last-fit : FitEnd (t .singles) (t .weights) q
+    last-fit = rw (fed .is) (fit-end t (fit .sized) xs (fit .short) p z (fed .ran) (fit .sound) small-before)
+
+    pub open-way : (last : Bool) → last ≡ false → (q ≡ feedOf t last xs p) × Kept t last xs p
+    open-way last l = rw l (fed .is ∙ feed-open t xs p z e, kept-open t xs p z e (fed .ran))
+
+    pub last-way : (last : Bool) (x : Place) → last ≡ true → x ≡ endOf (t .singles) (t .weights) q → Ended (t .singles) (t .weights) q → (x ≡ feedOf t last xs p) × Kept t last xs p
+    last-way last x l i f =
+        rw l (i ∙ (ap (endOf (t .singles) (t .weights)) (fed .is) ∙ feed-last t xs p z e), kept-last t xs p z e (fed .ran) (rw (fed .is) at f))

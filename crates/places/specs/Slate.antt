@@ -1,0 +1,59 @@
+-- All eight places: what a start gives, and what a part of a chunk makes of them. Assumes nothing.
+use mathlib.Core.Bool.{Bool, true, false, cond, _&&_}
+use mathlib.Core.List.{List, [], _∷_, map}
+use Prim.Native.Nat.{ℕ, _/_, _%_}
+use lib.Dec.{eqb, leb}
+use lib.IntN.{pos}
+use lib.ListN.{length}
+use Rattle.laws.specs.Each.{EachFrom}
+use Rattle.laws.specs.Limit.{limit}
+use Rattle.big5.specs.Scoring as big5
+use Rattle.euckr.specs.Scoring as euckr
+use Rattle.iso2022jp.specs.Iso2022Jp as iso2022jp
+use Rattle.arabic_french.specs.ArabicFrench as arabicFrench
+use Rattle.caseless.specs.Caseless as caseless
+use Rattle.logical.specs.Logical as logical
+use Rattle.visual.specs.Visual as visual
+use Rattle.utf8.specs.Utf8 as utf-8
+use Rattle.kinds.specs.Tables.{Tables, sizedB}
+use Rattle.kinds.specs.declared.machine.Machine.{Machine}
+use Rattle.kinds.specs.declared.machine.Machine.the-variants.{Utf8, Iso2022Jp, EucKr, Big5, Caseless, Logical, Visual, ArabicFrench}
+use Rattle.places.specs.Order.{slateB, Kept}
+use Rattle.places.specs.Place.{place, feedOf}
+use Rattle.places.specs.declared.place.Place.{Place}
+use Rattle.places.specs.declared.place.Score.{Score}
+use Rattle.places.specs.declared.place.Score.the-variants.{None, Live}
+use Rattle.places.specs.declared.slate.Slated.{Slated}
+
+-- ---- a start
+-- a place takes part where the bit that is worth `unit` is set; its score starts at 0
+abbrev pub takenOf : ℕ → ℕ → Score
+takenOf bits unit = cond (eqb (bits / unit % 2) 1) (Live (pos 0)) None
+
+-- fresh machines, each in its place
+unfoldable pub startOf : ℕ → List Place
+startOf bits =
+    place (Utf8 utf-8.fresh) (takenOf bits 1) ∷ place (Iso2022Jp iso2022jp.fresh) (takenOf bits 2) ∷ place (EucKr euckr.freshOf) (takenOf bits 4) ∷ place (Big5 big5.freshOf) (takenOf bits 8) ∷ place (Caseless caseless.freshOf) (takenOf bits 16) ∷ place (Logical logical.freshOf) (takenOf bits 32) ∷ place (Visual visual.freshOf) (takenOf bits 64) ∷ place (ArabicFrench arabicFrench.freshOf) (takenOf bits 128) ∷ []
+
+-- ---- a part of a chunk
+abbrev pub feedAll : Tables → Bool → List ℕ → List Place → List Place
+feedAll t last xs ps = map (feedOf t last xs) ps
+
+-- the part is no longer than a stream, each place is one that such a stream can have led to, the lent lengths are exact
+unfoldable pub fitB : Tables → List ℕ → List Place → Bool
+fitB t xs ps = leb (length xs) limit && (slateB limit false true ps && sizedB t)
+
+-- fed; or not fit, and as they were
+abbrev pub slated : Bool → List Place → Slated
+slated fit ps = record { fit = fit; places = ps }
+
+unfoldable pub slatedOf : Tables → Bool → List ℕ → List Place → Slated
+slatedOf t last xs ps = cond (fitB t xs ps) (slated true (feedAll t last xs ps)) (slated false ps)
+
+-- what was fed stays in order
+abbrev pub AllKept : Tables → Bool → List ℕ → List Place → Type 0
+AllKept t last xs ps = EachFrom (λ (k : ℕ) (p : Place). Kept t last xs p) 0 ps
+
+abbrev pub KeptIf : Bool → Tables → Bool → List ℕ → List Place → Type 0
+KeptIf true t last xs ps = AllKept t last xs ps
+KeptIf false t last xs ps = Unit {0}

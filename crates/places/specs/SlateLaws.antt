@@ -1,0 +1,210 @@
+-- Laws of the slate, for its code and its callers. Assumes nothing.
+use mathlib.Core.Path.{_≡_, refl, sym, ap, _∙_}
+use mathlib.Core.Bool.{Bool, true, false, cond, _&&_}
+use mathlib.Core.List.{List, [], _∷_, map}
+use Prim.Native.Nat.{ℕ, zero, suc, _+_, _*_, _/_, _%_, _≤_, _<_}
+use native.Mathlib.Nat.{not-suc-le-zero, zero-add, add-zero}
+use native.Mathlib.Numerals.{add-one}
+use native.Mathlib.Omega.{arith}
+use lib.Dec.{eqb, leb}
+use lib.IntN.{pos}
+use lib.ListN.{length, getD, set}
+use borrow.Author.Tests.{leb-true, le-leb, eqb-true, eqb-false}
+use Rattle.laws.specs.Each.{changed, changed-none, changed-at, changed-next, changed-all, EachFrom, each-weaken, each-get}
+use Rattle.laws.specs.Limit.{limit}
+use Rattle.laws.specs.Tests.{both, either}
+use Rattle.weights.specs.Weights.{perByte}
+use Rattle.big5.specs.Scoring as big5
+use Rattle.euckr.specs.Scoring as euckr
+use Rattle.iso2022jp.specs.Iso2022Jp as iso2022jp
+use Rattle.arabic_french.specs.ArabicFrench as arabicFrench
+use Rattle.caseless.specs.Caseless as caseless
+use Rattle.logical.specs.Logical as logical
+use Rattle.visual.specs.Visual as visual
+use Rattle.utf8.specs.Utf8 as utf-8
+use Rattle.kinds.specs.Kinds.{kindOf, freshIn}
+use Rattle.kinds.specs.KindLaws.{reach-open}
+use Rattle.kinds.specs.Sound.{reachOf, SoundFor}
+use Rattle.kinds.specs.SoundLaws.{sound-more, fresh-sound}
+use Rattle.kinds.specs.Tables.{Tables, Sized, sizedB}
+use Rattle.kinds.specs.TablesLaws.{sized-true, true-sized}
+use Rattle.kinds.specs.declared.machine.Machine.{Machine}
+use Rattle.kinds.specs.declared.machine.Machine.the-variants.{Utf8, Iso2022Jp, EucKr, Big5, Caseless, Logical, Visual, ArabicFrench}
+use Rattle.places.specs.Order.{ScoredFor, ZeroOrNone, FedOr, PlaceFor, SlateFor, slateB, Kept}
+use Rattle.places.specs.OrderLaws.{slate-true, true-slate, scored-more}
+use Rattle.places.specs.Place.{place, feedOf, SmallScore, FitPart}
+use Rattle.places.specs.PlaceLaws.{feed-nil}
+use Rattle.places.specs.Slate.{takenOf, startOf, feedAll, fitB, slated, slatedOf, AllKept, KeptIf}
+use Rattle.places.specs.declared.place.Place.{Place}
+use Rattle.places.specs.declared.place.Score.{Score}
+use Rattle.places.specs.declared.place.Score.the-variants.{None, Live}
+use Rattle.places.specs.declared.slate.Slated.{Slated}
+
+-- ---- a start is in order
+taken-scored : (m : Machine) (t : Bool) → m ≡ freshIn m → ScoredFor 0 m (cond t (Live (pos 0)) None)
+taken-scored m true e = omega arith
+taken-scored m false e = e
+
+taken-zero : (t : Bool) → ZeroOrNone (cond t (Live (pos 0)) None)
+taken-zero true = refl
+taken-zero false = tt
+
+begun : (k : ℕ) (m : Machine) (t : Bool) → kindOf m ≡ k → m ≡ freshIn m → PlaceFor 0 false false k (place m (cond t (Live (pos 0)) None))
+begun k m t e f =
+    record {
+      kind = e;
+      sound = rw (reach-open m 0) (rw (sym f) at (fresh-sound 0 0 m));
+      scored = rw (reach-open m 0) (taken-scored m t f);
+      fed-or = (f, taken-zero t);
+    }
+
+pub start-for : (bits : ℕ) → SlateFor 0 false false (startOf bits)
+unfolding startOf kindOf freshIn
+start-for bits =
+    record {
+      most = omega arith;
+      each = (begun 0 (Utf8 utf-8.fresh) (eqb (bits / 1 % 2) 1) refl refl, (begun 1 (Iso2022Jp iso2022jp.fresh) (eqb (bits / 2 % 2) 1) refl refl, (begun 2 (EucKr euckr.freshOf) (eqb (bits / 4 % 2) 1) refl refl, (begun 3 (Big5 big5.freshOf) (eqb (bits / 8 % 2) 1) refl refl, (begun 4 (Caseless caseless.freshOf) (eqb (bits / 16 % 2) 1) refl refl, (begun 5 (Logical logical.freshOf) (eqb (bits / 32 % 2) 1) refl refl, (begun 6 (Visual visual.freshOf) (eqb (bits / 64 % 2) 1) refl refl, (begun 7 (ArabicFrench arabicFrench.freshOf) (eqb (bits / 128 % 2) 1) refl refl, tt))))))));
+    }
+
+-- ---- more bytes
+place-more : (n m : ℕ) (fed : Bool) → n ≤ m → (k : ℕ) (p : Place) → PlaceFor n false fed k p → PlaceFor m false true k p
+place-more n m fed h k p o =
+    let x = p .machine in
+    record {
+      kind = o .kind;
+      sound = rw (reach-open x m) (sound-more n m n m x h h (rw (reach-open x n) at (o .sound)));
+      scored = rw (reach-open x m) (scored-more n m x (p .score) h (rw (reach-open x n) at (o .scored)));
+      fed-or = tt;
+    }
+
+pub slate-more : (n m : ℕ) (fed : Bool) (ps : List Place) → n ≤ m → m ≤ limit → SlateFor n false fed ps → SlateFor m false true ps
+slate-more n m fed ps h l o = record { most = l; each = each-weaken (PlaceFor n false fed) (PlaceFor m false true) (place-more n m fed h) 0 ps (o .each) }
+
+-- ---- places that were not fed yet stay so, whatever the stream has
+zero-scored : (n : ℕ) (m : Machine) (c : Score) → m ≡ freshIn m → ZeroOrNone c → ScoredFor n m c
+zero-scored n m None e z = e
+zero-scored n m (Live s) e z = rw z (omega arith)
+
+unfed-for : (n m : ℕ) (closed fed : Bool) (k : ℕ) (p : Place) → FedOr fed p → PlaceFor n false false k p → PlaceFor m closed fed k p
+unfed-for n m closed fed k p f o =
+    let x = p .machine in
+    let e = o .fed-or .0 in
+    record {
+      kind = o .kind;
+      sound = rw (sym e) at (fresh-sound m (reachOf x m closed) x);
+      scored = zero-scored (reachOf x m closed) x (p .score) e (o .fed-or .1);
+      fed-or = f;
+    }
+
+pub slate-still : (n m : ℕ) (closed : Bool) (ps : List Place) → m ≤ limit → SlateFor n false false ps → SlateFor m closed false ps
+slate-still n m closed ps l o = record { most = l; each = each-weaken (PlaceFor n false false) (PlaceFor m closed false) (λ (k : ℕ) (p : Place) (q : PlaceFor n false false k p). unfed-for n m closed false k p (q .fed-or) q) 0 ps (o .each) }
+
+-- ---- fitness
+module _ (t : Tables) (xs : List ℕ) (ps : List Place) where
+  pub record Fit : Type 0 where
+    pub short : length xs ≤ limit
+    pub slate : SlateFor limit false true ps
+    pub sized : Sized t
+
+  pub fit-true : fitB t xs ps ≡ true → Fit
+  unfolding fitB
+  fit-true e =
+      let a = both _ _ e in
+      let b = both _ _ (a .1) in
+      record { short = leb-true _ _ (a .0); slate = slate-true limit false true ps (b .0); sized = sized-true t (b .1) }
+
+  true-fit : Fit → fitB t xs ps ≡ true
+  unfolding fitB
+  true-fit f = rw (le-leb _ _ (f .short), true-slate limit false true ps (f .slate), true-sized t (f .sized))
+
+  pub slated-at : (last x : Bool) → fitB t xs ps ≡ x → cond x (slated true (feedAll t last xs ps)) (slated false ps) ≡ slatedOf t last xs ps
+  unfolding slatedOf
+  slated-at last x e = rw e
+
+  -- what a caller that has tested uses
+  pub slated-fit : (last fed : Bool) (n : ℕ) → Sized t → length xs ≤ limit → SlateFor n false fed ps → slatedOf t last xs ps ≡ slated true (feedAll t last xs ps)
+  slated-fit last fed n z h o =
+      sym (slated-at last true (true-fit (record { short = h; slate = slate-more n limit fed ps (o .most) (omega arith) o; sized = z })))
+
+-- ---- the places after a part are in order
+each-fed : (t : Tables) (last : Bool) (xs : List ℕ) (n : ℕ) → n + length xs ≤ limit → (k : ℕ) (ps : List Place) → EachFrom (λ (j : ℕ) (p : Place). Kept t last xs p) k ps → EachFrom (PlaceFor n false true) k ps → EachFrom (PlaceFor (n + length xs) last true) k (feedAll t last xs ps)
+each-fed t last xs n h k [] f o = tt
+each-fed t last xs n h k (p ∷ ps) f o = (f .0 .kept n k h (o .0), each-fed t last xs n h (suc k) ps (f .1) (o .1))
+
+pub fed-slate : (t : Tables) (last fed : Bool) (xs : List ℕ) (n : ℕ) (ps : List Place) → n + length xs ≤ limit → AllKept t last xs ps → SlateFor n false fed ps → SlateFor (n + length xs) last true (feedAll t last xs ps)
+fed-slate t last fed xs n ps h f o =
+    record { most = h; each = each-fed t last xs n h 0 ps f (slate-more n n fed ps (omega arith) (o .most) o .each) }
+
+-- the same of what the code answered
+pub fed-kept : (t : Tables) (last : Bool) (xs : List ℕ) (ps qs : List Place) (r : Slated) → r ≡ slated true qs → KeptIf (r .fit) t last xs ps → AllKept t last xs ps
+fed-kept t last xs ps qs r e h = rw e at h
+
+nil-kept-at : (t : Tables) (p : Place) → Kept t false [] p
+nil-kept-at t p = record { kept = λ (n k : ℕ) h o. rw (feed-nil t p, add-zero) o }
+
+pub nil-kept : (t : Tables) (k : ℕ) (ps : List Place) → EachFrom (λ (j : ℕ) (p : Place). Kept t false [] p) k ps
+nil-kept t k [] = tt
+nil-kept t k (p ∷ ps) = (nil-kept-at t p, nil-kept t (suc k) ps)
+
+-- an empty part that is not the last one leaves all as it is
+pub feed-all-nil : (t : Tables) (ps : List Place) → feedAll t false [] ps ≡ ps
+feed-all-nil t [] = refl
+feed-all-nil t (p ∷ ps) = ap (λ (x : Place). x ∷ feedAll t false [] ps) (feed-nil t p) ∙ ap (λ (l : List Place). p ∷ l) (feed-all-nil t ps)
+
+-- ---- for the loop
+score-small : (m : Machine) (c : Score) → ScoredFor limit m c → SmallScore (perByte * limit) c
+score-small m None q = tt
+score-small m (Live s) q = q
+
+fit-place : (t : Tables) (xs : List ℕ) (p : Place) (i : ℕ) → Sized t → length xs ≤ limit → PlaceFor limit false true i p → FitPart t p (length xs)
+fit-place t xs p i z h o =
+    let m = p .machine in
+    record { sized = z; sound = rw (reach-open m limit) at (o .sound); small = score-small m (p .score) (rw (reach-open m limit) at (o .scored)); short = h }
+
+-- within a list the default does not matter
+getD-any : (ps : List Place) (i : ℕ) (x y : Place) → i < length ps → getD ps i x ≡ getD ps i y
+getD-any [] i x y h = absurd (not-suc-le-zero h)
+getD-any (p ∷ ps) zero x y h = refl
+getD-any (p ∷ ps) (suc i) x y h = getD-any ps i x y (omega (arith, h))
+
+kept-each : (P : Place → Type 0) (k : ℕ) (ps : List Place) → ((i : ℕ) (d : Place) → i < length ps → P (getD ps i d)) → EachFrom (λ (j : ℕ) (p : Place). P p) k ps
+kept-each P k [] f = tt
+kept-each P k (p ∷ ps) f = (f 0 p (omega arith), kept-each P (suc k) ps (λ (i : ℕ) (d : Place) h. f (suc i) d (omega (arith, h))))
+
+module _ (t : Tables) (last : Bool) (xs : List ℕ) (ps : List Place) where
+  -- the first i places were fed
+  pub record Feeding (i : ℕ) (out : List Place) : Type 0 where
+    pub within : i ≤ 8
+    pub eight : length ps ≡ 8
+    pub fed-so : out ≡ changed (feedOf t last xs) i ps
+    pub kept-so : (j : ℕ) (d : Place) → j < i → Kept t last xs (getD ps j d)
+
+  pub feeding-start : length ps ≡ 8 → Feeding 0 ps
+  feeding-start e = record { within = omega arith; eight = e; fed-so = changed-none (feedOf t last xs) ps; kept-so = λ (j : ℕ) (d : Place) h. absurd (not-suc-le-zero h) }
+
+  module _ (i : ℕ) (out : List Place) (d : Place) (o : Feeding i out) (h : i < 8) where
+    at : getD out i d ≡ getD ps i d
+    at = ap (λ (l : List Place). getD l i d) (o .fed-so) ∙ changed-at (feedOf t last xs) i ps d
+
+    pub feeding-fit : Sized t → length xs ≤ limit → SlateFor limit false true ps → FitPart t (getD out i d) (length xs)
+    feeding-fit z l f = rw at (fit-place t xs (getD ps i d) i z l (rw zero-add at (each-get (PlaceFor limit false true) 0 ps d (f .each) i (rw (o .eight) h))))
+
+    kept-next : Kept t last xs (getD ps i d) → (j : ℕ) (x : Place) → j < i + 1 → Kept t last xs (getD ps j x)
+    kept-next k j x l = pick (eqb j i) refl
+      where
+        pick : (b : Bool) → eqb j i ≡ b → Kept t last xs (getD ps j x)
+        pick true e = rw (eqb-true j i e, getD-any ps i x d (rw (o .eight) h)) k
+        pick false e = o .kept-so j x (omega (arith, l, eqb-false j i e))
+
+    pub feeding-next : (q : Place) → q ≡ feedOf t last xs (getD out i d) → Kept t last xs (getD out i d) → Feeding (i + 1) (set out i q)
+    feeding-next q e k =
+        record {
+          within = omega arith;
+          eight = o .eight;
+          fed-so = rw (e, at, o .fed-so, add-one) (changed-next (feedOf t last xs) i ps d (rw (o .eight) h));
+          kept-so = kept-next (rw at at k);
+        }
+
+  pub feeding-done : (i : ℕ) (out : List Place) → Feeding i out → 8 ≤ i → (out ≡ feedAll t last xs ps) × AllKept t last xs ps
+  feeding-done i out o h =
+      (o .fed-so ∙ changed-all (feedOf t last xs) i ps (rw (o .eight) h), kept-each (Kept t last xs) 0 ps (λ (j : ℕ) (d : Place) l. o .kept-so j d (omega (arith, l, o .eight))))

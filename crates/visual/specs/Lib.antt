@@ -1,0 +1,3 @@
+pub mod Visual
+pub mod VisualLaws
+pub mod HeadLaws

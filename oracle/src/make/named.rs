@@ -1,0 +1,124 @@
+//! Cases with names, for `drive`: the lines of DESIGN 5.2, 5.4, 5.6, 5.7 and
+//! 5.8, and document 01's edge lines on EUC-KR and Big5. They are meant for
+//! the tables `named`.
+
+use crate::order::fresh;
+use crate::record::Record;
+use std::io::{Result, Write};
+
+const EUC_KR: u8 = 2;
+const BIG5: u8 = 3;
+
+struct Line {
+    name: &'static str,
+    place: u8,
+    start: Record,
+    bytes: Vec<u8>,
+    close: bool,
+}
+
+pub fn run(out: &mut impl Write) -> Result<()> {
+    let groups = [edges(), held(), unreachable(), previous_byte(), mapped(), leads()];
+    for line in groups.into_iter().flatten() {
+        out.write_all(&[b'N', line.name.len() as u8])?;
+        out.write_all(line.name.as_bytes())?;
+        out.write_all(&[b'L', line.place])?;
+        out.write_all(&line.start.to_bytes())?;
+        out.write_all(&[line.close as u8])?;
+        out.write_all(&(line.bytes.len() as u32).to_le_bytes())?;
+        out.write_all(&line.bytes)?;
+    }
+    Ok(())
+}
+
+/// From fresh, left open.
+fn open(place: u8, name: &'static str, bytes: &[u8]) -> Line {
+    Line { name, place, start: fresh(place), bytes: bytes.to_vec(), close: false }
+}
+
+fn closed(place: u8, name: &'static str, bytes: &[u8]) -> Line {
+    Line { close: true, ..open(place, name, bytes) }
+}
+
+fn from(place: u8, name: &'static str, start: Record, bytes: &[u8]) -> Line {
+    Line { start: Record { live: true, ..start }, ..open(place, name, bytes) }
+}
+
+fn edges() -> Vec<Line> {
+    let hangul = |count: usize| [0xB0, 0xA1].repeat(count);
+    vec![
+        open(BIG5, "01 FD FF, extension twice", &[0xFD, 0xFF]),
+        open(BIG5, "01 FD 61 unmapped, PUA once", &[0xFD, 0x61]),
+        open(BIG5, "01 A4 FF", &[0xA4, 0xFF]),
+        open(BIG5, "01 lone 80", &[0x80]),
+        open(EUC_KR, "01 five Hangul, no long word", &hangul(5)),
+        open(EUC_KR, "01 six Hangul, long word once", &hangul(6)),
+        open(EUC_KR, "01 seven Hangul, long word twice", &hangul(7)),
+        open(EUC_KR, "01 pair ending in 81, then lone FF, extension twice", &[0xB0, 0x81, 0xFF]),
+    ]
+}
+
+fn held() -> Vec<Line> {
+    vec![
+        open(EUC_KR, "5.4 held", &[0xB0, 0x81]),
+        closed(EUC_KR, "5.4 held at the close, counts nothing and stays", &[0xB0, 0x81]),
+        open(EUC_KR, "5.4 held, then a Hangul releases it", &[0xB0, 0x81, 0xB0, 0xA1]),
+        open(BIG5, "5.4 held", &[0xB0, 0x40]),
+        closed(BIG5, "5.4 held at the close, counts nothing and stays", &[0xB0, 0x40]),
+        open(BIG5, "5.4 held, then a Hanzi releases it", &[0xB0, 0x40, 0xB0, 0x40]),
+    ]
+}
+
+/// From states in order that no stream leads to, each beside its neighbour
+/// that a stream does lead to.
+fn unreachable() -> Vec<Line> {
+    let big5 = |b: u8| Record { a: 0xA4, b, d: 2, ..Record::default() };
+    let korean = |c: u8, d: u8| Record { a: 0xB0, b: 0xB0, c, d, ..Record::default() };
+    let flag_false = "5.6 lead B0, range flag false, Hangul at A1 is non-EUC";
+    let flag_true = "5.6 lead B0, range flag true, Hangul at A1 is EUC";
+    vec![
+        from(BIG5, "5.6 lead A4, previous byte 00, then unmapped A1", big5(0x00), &[0xA1]),
+        from(BIG5, "5.6 lead A4, previous byte A4, then unmapped A1", big5(0xA4), &[0xA1]),
+        from(EUC_KR, flag_false, korean(0, 1), &[0xA1]),
+        from(EUC_KR, "5.6 the same after no Hangul, held", korean(0, 3), &[0xA1]),
+        from(EUC_KR, flag_true, korean(1, 1), &[0xA1]),
+    ]
+}
+
+/// The rule reads the previous byte, not a pending lead.
+fn previous_byte() -> Vec<Line> {
+    vec![
+        open(EUC_KR, "5.7 pair ending in 81, then FF", &[0xB0, 0x81, 0xFF]),
+        open(EUC_KR, "5.7 pair ending in 82, then FF", &[0xB0, 0x82, 0xFF]),
+        open(EUC_KR, "5.7 pair ending in 83, then FF", &[0xB0, 0x83, 0xFF]),
+        open(EUC_KR, "5.7 pair ending in 84, then FF", &[0xB0, 0x84, 0xFF]),
+        open(EUC_KR, "5.7 pair ending in 85, then FF", &[0xB0, 0x85, 0xFF]),
+        open(EUC_KR, "5.7 pair ending in 81, then 80", &[0xB0, 0x81, 0x80]),
+        open(EUC_KR, "5.7 pair ending in 84, then 80", &[0xB0, 0x84, 0x80]),
+        open(EUC_KR, "5.7 lone FF", &[0xFF]),
+        open(BIG5, "5.7 pair ending in FD, then FF", &[0xB0, 0xFD, 0xFF]),
+        open(BIG5, "5.7 pair ending in FE, then FF", &[0xB0, 0xFE, 0xFF]),
+        open(BIG5, "5.7 pair ending in FC, then FF", &[0xB0, 0xFC, 0xFF]),
+        open(BIG5, "5.7 held, then FF drops it", &[0xB0, 0x40, 0xFF]),
+    ]
+}
+
+fn mapped() -> Vec<Line> {
+    vec![
+        open(BIG5, "5.8 mapped private use is CJK other", &[0x88, 0x63]),
+        open(BIG5, "5.8 unmapped pair is PUA", &[0xA4, 0xA1]),
+        open(EUC_KR, "5.8 mapped private use is CJK other", &[0xC9, 0xA2]),
+        open(EUC_KR, "5.8 unmapped pair is PUA", &[0xC9, 0xA1]),
+        open(BIG5, "5.8 special 88 62 over a mapped entry", &[0x88, 0x62]),
+        open(BIG5, "5.8 special 88 64 over a mapped entry", &[0x88, 0x64]),
+        open(BIG5, "5.8 special 88 A3 over a mapped entry", &[0x88, 0xA3]),
+        open(BIG5, "5.8 special 88 A5 over a mapped entry", &[0x88, 0xA5]),
+    ]
+}
+
+/// Where document 01 stands and the text as given differs.
+fn leads() -> Vec<Line> {
+    let name = "5.2 lead 82 then 20, counted; the Rust as given holds and drops it";
+    let at_close = "5.2 lead 82 at the close, counted; the Rust as given holds it";
+    vec![open(EUC_KR, name, &[0x82, 0x41, 0x20]), closed(EUC_KR, at_close, &[0x82, 0x41])]
+}
