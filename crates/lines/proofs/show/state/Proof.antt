@@ -11,8 +11,8 @@ front-requires c κs = search needs
 places-requires : tie.Need-places-requires
 places-requires c κs = search needs
 
-leading-requires : tie.Need-leading-requires
-leading-requires c κs = search needs
+of-requires : tie.Need-of-requires
+of-requires c κs = search needs
 
 lead-requires : tie.Need-lead-requires
 lead-requires c κs = search needs
@@ -27,4 +27,4 @@ returns c = follow _ _ _ (follow _ _ _ (c .before .before .before .before .befor
 pub state-spec : {M : Type 1} → statement M
 state-spec =
     tie.close
-    (tie.spec front-requires places-requires leading-requires lead-requires same-length returns)
+    (tie.spec front-requires places-requires of-requires lead-requires same-length returns)
