@@ -5,16 +5,16 @@ ghost use Rattle.lines.specs.Fields.{heldText, utf8Text, iso2022jpText, 
 ghost use Rattle.scribe.specs.Page.{page, onto};
 ghost use Rattle.scribe.specs.Text.{ascii, flagOf, hexOf, decimalOf};
 use crate::names;
+use arabic_french::ArabicFrench;
 use big5::Big5;
+use caseless::Caseless;
 use euckr::EucKr;
 use iso2022jp::Iso2022Jp;
+use logical::Logical;
 use pairs::Held;
 use scribe::page;
-use arabic_french::ArabicFrench;
-use caseless::Caseless;
-use logical::Logical;
-use visual::Visual;
 use utf8::Utf8;
+use visual::Visual;
 
 // A label and a number, two hexadecimal digits or a flag after it.
 pub(crate) fn count(out: &mut [u8], at: usize, label: &[u8], n: u64) -> usize

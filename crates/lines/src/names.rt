@@ -2,12 +2,12 @@
 ghost use mathlib.Core.Path.{_≡_};
 ghost use Rattle.lines.specs.Names.{placeName, stateName, outName, koreanName, cjName, caseName};
 ghost use Rattle.scribe.specs.Page.{page, onto};
+use arabic_french::LatinCaseState;
 use big5::LatinCj;
 use euckr::LatinKorean;
 use iso2022jp::DecoderState;
 use iso2022jp::OutputState;
 use scribe::page;
-use arabic_french::LatinCaseState;
 
 // The name of a place by its number; the last one's for any above.
 pub(crate) fn place(out: &mut [u8], at: usize, k: usize) -> usize
