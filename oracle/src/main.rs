@@ -43,6 +43,8 @@ fn main() {
 fn run(args: &[&str], input: impl Read, out: &mut impl Write) -> std::io::Result<()> {
     match args {
         ["replay"] => replay::run(input, out),
+        ["replay", "--cases"] => replay::cases(input, out),
+        ["count"] => replay::count(input, out),
         ["drive"] => drive::run(input, out, drive::Form::Binary),
         ["drive", "--text"] => drive::run(input, out, drive::Form::Text),
         ["drive", "--digest"] => drive::run(input, out, drive::Form::Digest),

@@ -4,6 +4,7 @@
 mod cuts;
 mod drive;
 mod leaves;
+mod malformed;
 mod named;
 mod records;
 mod streams;
@@ -42,6 +43,7 @@ pub fn run(args: &[&str], out: &mut impl Write) -> Result<()> {
         ["leaves", seed, count] => {
             leaves::run(number(Some(seed))?, number(Some(count))?, out).map(|()| true)?
         }
+        ["malformed"] => malformed::run(out).map(|()| true)?,
         ["named"] => named::run(out).map(|()| true)?,
         _ => false,
     };

@@ -1,0 +1,4 @@
+pub mod Fields
+pub mod Names
+pub mod Show
+pub mod ShowLaws

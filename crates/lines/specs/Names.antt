@@ -1,0 +1,62 @@
+-- The words of the replay format. Assumes nothing.
+use mathlib.Core.Path.{_≡_, refl}
+use mathlib.Core.List.{List, [], _∷_}
+use Prim.Native.Nat.{ℕ, zero, suc}
+use lib.ListN.{getD}
+use Rattle.scribe.specs.Text.{ascii}
+use Rattle.big5.specs.declared.LatinCj as cj
+use Rattle.euckr.specs.declared.LatinKorean as korean
+use Rattle.iso2022jp.specs.declared.DecoderState as decoder
+use Rattle.iso2022jp.specs.declared.OutputState as output
+use Rattle.arabic_french.specs.declared.LatinCaseState as case
+
+-- the places by their numbers
+abbrev pub places : List (List ℕ)
+places =
+    ascii "utf-8" ∷ ascii "iso-2022-jp" ∷ ascii "euc-kr" ∷ ascii "big5" ∷ ascii "caseless" ∷ ascii "logical" ∷ ascii "visual" ∷ []
+
+unfoldable pub placeName : ℕ → List ℕ
+placeName k = getD places k (ascii "arabic-french")
+
+pub last-name : (k : ℕ) → (k ≡ 0 → ⊥) → (k ≡ 1 → ⊥) → (k ≡ 2 → ⊥) → (k ≡ 3 → ⊥) → (k ≡ 4 → ⊥) → (k ≡ 5 → ⊥) → (k ≡ 6 → ⊥) → ascii "arabic-french" ≡ placeName k
+unfolding placeName
+last-name zero a b c d e f g = absurd (a refl)
+last-name (suc zero) a b c d e f g = absurd (b refl)
+last-name (suc (suc zero)) a b c d e f g = absurd (c refl)
+last-name (suc (suc (suc zero))) a b c d e f g = absurd (d refl)
+last-name (suc (suc (suc (suc zero)))) a b c d e f g = absurd (e refl)
+last-name (suc (suc (suc (suc (suc zero))))) a b c d e f g = absurd (f refl)
+last-name (suc (suc (suc (suc (suc (suc zero)))))) a b c d e f g = absurd (g refl)
+last-name (suc (suc (suc (suc (suc (suc (suc k))))))) a b c d e f g = refl
+
+unfoldable pub stateName : decoder.DecoderState → List ℕ
+stateName decoder.the-variants.Ascii = ascii "ascii"
+stateName decoder.the-variants.Roman = ascii "roman"
+stateName decoder.the-variants.Katakana = ascii "katakana"
+stateName decoder.the-variants.LeadByte = ascii "lead"
+stateName decoder.the-variants.TrailByte = ascii "trail"
+stateName decoder.the-variants.EscapeStart = ascii "escape-start"
+stateName decoder.the-variants.Escape = ascii "escape"
+
+unfoldable pub outName : output.OutputState → List ℕ
+outName output.the-variants.Ascii = ascii "ascii"
+outName output.the-variants.Roman = ascii "roman"
+outName output.the-variants.Katakana = ascii "katakana"
+outName output.the-variants.LeadByte = ascii "lead"
+
+unfoldable pub koreanName : korean.LatinKorean → List ℕ
+koreanName korean.the-variants.AsciiLetter = ascii "letter"
+koreanName korean.the-variants.Hangul = ascii "hangul"
+koreanName korean.the-variants.Hanja = ascii "hanja"
+koreanName korean.the-variants.Other = ascii "other"
+
+unfoldable pub cjName : cj.LatinCj → List ℕ
+cjName cj.the-variants.AsciiLetter = ascii "letter"
+cjName cj.the-variants.Cj = ascii "cj"
+cjName cj.the-variants.Other = ascii "other"
+
+unfoldable pub caseName : case.LatinCaseState → List ℕ
+caseName case.the-variants.Space = ascii "space"
+caseName case.the-variants.Upper = ascii "upper"
+caseName case.the-variants.Lower = ascii "lower"
+caseName case.the-variants.AllCaps = ascii "caps"

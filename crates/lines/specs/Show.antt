@@ -1,0 +1,76 @@
+-- Whole lines as text: a reply's, and the ten of a state. Assumes nothing.
+use mathlib.Core.List.{List, [], _∷_, _++_}
+use Prim.Native.Nat.{ℕ}
+use Rattle.scribe.specs.Text.{ascii, flagOf, hexOf, decimalOf, signedOf}
+use Rattle.context.specs.Context.{bytesOf}
+use Rattle.kinds.specs.Kinds.{kindOf}
+use Rattle.kinds.specs.declared.machine.Machine.{Machine}
+use Rattle.kinds.specs.declared.machine.Machine.the-variants.{Utf8, Iso2022Jp, EucKr, Big5, Caseless, Logical, Visual, ArabicFrench}
+use Rattle.places.specs.declared.place.Place.{Place}
+use Rattle.places.specs.declared.place.Score as score
+use Rattle.detector.specs.Leader.{leaderOf}
+use Rattle.detector.specs.Feed as reply
+use Rattle.detector.specs.declared.feed.Reply.{Reply}
+use Rattle.detector.specs.declared.front.Front.{Front}
+use Rattle.detector.specs.declared.leader.Leader as leader
+use Rattle.detector.specs.declared.state.State.{State}
+use Rattle.lines.specs.Fields.{utf8Text, iso2022jpText, euckrText, big5Text, caselessText, logicalText, visualText, arabicFrenchText}
+use Rattle.lines.specs.Names.{placeName}
+
+abbrev pub newline : List ℕ
+newline = 10 ∷ []
+
+unfoldable pub replyText : Reply → List ℕ
+replyText r = (ascii "reply " ++ decimalOf (reply.numberOf r)) ++ (ascii " " ++ flagOf (reply.replyFlag r)) ++ newline
+
+-- ---- the front
+abbrev pub hexesOf : List ℕ → List ℕ
+hexesOf [] = []
+hexesOf (b ∷ bs) = hexOf b ++ hexesOf bs
+
+-- the saved bytes, oldest first; `-` where there are none
+abbrev pub savedText : List ℕ → List ℕ
+savedText [] = ascii "-"
+savedText (b ∷ bs) = hexesOf (b ∷ bs)
+
+unfoldable pub frontText : Front → List ℕ
+frontText f =
+    ascii "front context="
+    ++ savedText (bytesOf (f .context))
+    ++ (ascii " esc=" ++ flagOf (f .«esc_seen»))
+    ++ (ascii " nonascii=" ++ decimalOf (f .«non_ascii_seen»))
+    ++ (ascii " closed=" ++ flagOf (f .closed))
+    ++ (ascii " bytes=" ++ decimalOf (f .bytes))
+    ++ newline
+
+-- ---- the places
+unfoldable pub recordText : Machine → List ℕ
+recordText (Utf8 m) = utf8Text m
+recordText (Iso2022Jp m) = iso2022jpText m
+recordText (EucKr m) = euckrText m
+recordText (Big5 m) = big5Text m
+recordText (Caseless m) = caselessText m
+recordText (Logical m) = logicalText m
+recordText (Visual m) = visualText m
+recordText (ArabicFrench m) = arabicFrenchText m
+
+-- a place without a score shows nothing of its record
+unfoldable pub scoredText : Machine → score.Score → List ℕ
+scoredText m score.the-variants.None = ascii " none" ++ newline
+scoredText m (score.the-variants.Live n) = ascii " " ++ signedOf n ++ recordText m ++ newline
+
+unfoldable pub placeText : Place → List ℕ
+placeText p = placeName (kindOf (p .machine)) ++ scoredText (p .machine) (p .score)
+
+unfoldable pub placesText : List Place → List ℕ
+placesText [] = []
+placesText (p ∷ ps) = placeText p ++ placesText ps
+
+-- ---- the leader
+unfoldable pub leadText : leader.Leader → List ℕ
+leadText leader.the-variants.Ascii = ascii "ascii"
+leadText leader.the-variants.None = ascii "none"
+leadText (leader.the-variants.Place k) = placeName k
+
+unfoldable pub stateText : State → List ℕ
+stateText s = frontText (s .front) ++ placesText (s .places) ++ (ascii "leader " ++ leadText (leaderOf s) ++ newline)

@@ -1,0 +1,140 @@
+// Whole lines: a reply, and the ten of a state.
+ghost use mathlib.Core.Path.{_≡_};
+ghost use mathlib.Core.List.{_++_};
+ghost use Rattle.context.specs.Context.{bytesOf};
+ghost use Rattle.lines.specs.Show.{newline, savedText, replyText, frontText, recordText, scoredText, placeText, placesText, leadText, stateText};
+ghost use Rattle.scribe.specs.Page.{page, onto};
+ghost use Rattle.scribe.specs.Text.{ascii};
+use crate::fields;
+use crate::names;
+use context::Context;
+use detector::feed::Reply;
+use detector::front::Front;
+use detector::leader;
+use detector::leader::Leader;
+use detector::state::State;
+use kinds::machine::Machine;
+use places::place::Place;
+use places::place::Score;
+use places::place::Slate;
+use scribe::page;
+
+fn end_line(out: &mut [u8], at: usize) -> usize
+    ensures { λ r. ⌜ page (now (out .exit)) r ≡ onto (page (now (out .entry)) at) newline ⌝ }
+{
+    page::byte(out, at, 0x0A)
+}
+
+pub fn reply(out: &mut [u8], at: usize, reply: Reply) -> usize
+    ensures { λ r. ⌜ page (now (out .exit)) r ≡ onto (page (now (out .entry)) at) (replyText reply) ⌝ }
+{
+    let a = fields::count(out, at, b"reply ", fields::wide(reply.number()));
+    let b = fields::flag(out, a, b" ", reply.flag());
+    end_line(out, b)
+}
+
+// The bytes of the saved context, or `-`.
+fn saved(out: &mut [u8], at: usize, context: Context) -> usize
+    ensures { λ r. ⌜ page (now (out .exit)) r ≡ onto (page (now (out .entry)) at) (savedText (bytesOf context)) ⌝ }
+{
+    let count = context.count();
+    if count == 0 {
+        return page::byte(out, at, b'-');
+    }
+    let a = page::hex(out, at, context.first);
+    if count == 1 {
+        return a;
+    }
+    page::hex(out, a, context.second)
+}
+
+fn front(out: &mut [u8], at: usize, front: Front) -> usize
+    ensures { λ r. ⌜ page (now (out .exit)) r ≡ onto (page (now (out .entry)) at) (frontText front) ⌝ }
+{
+    let context = front.context;
+    let a = page::word(out, at, b"front context=");
+    let b = saved(out, a, context);
+    let c = fields::flag(out, b, b" esc=", front.esc_seen);
+    let d = fields::count(out, c, b" nonascii=", front.non_ascii_seen);
+    let e = fields::flag(out, d, b" closed=", front.closed);
+    let f = fields::count(out, e, b" bytes=", front.bytes);
+    end_line(out, f)
+}
+
+// The fields of any machine.
+fn machine_fields(out: &mut [u8], at: usize, machine: Machine) -> usize
+    ensures { λ r. ⌜ page (now (out .exit)) r ≡ onto (page (now (out .entry)) at) (recordText machine) ⌝ }
+{
+    match machine {
+        Machine::Utf8(m) => fields::utf8(out, at, m),
+        Machine::Iso2022Jp(m) => fields::iso2022jp(out, at, m),
+        Machine::EucKr(m) => fields::euckr(out, at, m),
+        Machine::Big5(m) => fields::big5(out, at, m),
+        Machine::Caseless(m) => fields::caseless(out, at, m),
+        Machine::Logical(m) => fields::logical(out, at, m),
+        Machine::Visual(m) => fields::visual(out, at, m),
+        Machine::ArabicFrench(m) => fields::arabic_french(out, at, m),
+    }
+}
+
+// What follows a place's name.
+fn scored(out: &mut [u8], at: usize, machine: Machine, score: Score) -> usize
+    ensures { λ r. ⌜ page (now (out .exit)) r ≡ onto (page (now (out .entry)) at) (scoredText machine score) ⌝ }
+{
+    let Score::Live(n) = score else {
+        return page::word(out, at, b" none\n");
+    };
+    let a = page::word(out, at, b" ");
+    let b = page::signed(out, a, n);
+    let c = machine_fields(out, b, machine);
+    end_line(out, c)
+}
+
+fn place(out: &mut [u8], at: usize, place: Place) -> usize
+    ensures { λ r. ⌜ page (now (out .exit)) r ≡ onto (page (now (out .entry)) at) (placeText place) ⌝ }
+{
+    let machine = place.machine;
+    let score = place.score;
+    let a = names::place(out, at, machine.kind());
+    scored(out, a, machine, score)
+}
+
+fn places(out: &mut [u8], at: usize, slate: Slate) -> usize
+    ensures { λ r. ⌜ page (now (out .exit)) r ≡ onto (page (now (out .entry)) at) (placesText slate) ⌝ }
+{
+    let mut to = at;
+    let mut k = 0;
+    while k < 8 {
+        to = place(out, to, slate[k]);
+        k += 1;
+    }
+    to
+}
+
+fn leader_name(out: &mut [u8], at: usize, leader: Leader) -> usize
+    ensures { λ r. ⌜ page (now (out .exit)) r ≡ onto (page (now (out .entry)) at) (leadText leader) ⌝ }
+{
+    match leader {
+        Leader::Ascii => page::word(out, at, b"ascii"),
+        Leader::None => page::word(out, at, b"none"),
+        Leader::Place(k) => names::place(out, at, k),
+    }
+}
+
+fn lead(out: &mut [u8], at: usize, leader: Leader) -> usize
+    ensures { λ r. ⌜ page (now (out .exit)) r ≡ onto (page (now (out .entry)) at) (ascii "leader " ++ leadText leader ++ newline) ⌝ }
+{
+    let a = page::word(out, at, b"leader ");
+    let b = leader_name(out, a, leader);
+    end_line(out, b)
+}
+
+pub fn state(out: &mut [u8], at: usize, state: State) -> usize
+    ensures { λ r. ⌜ page (now (out .exit)) r ≡ onto (page (now (out .entry)) at) (stateText state) ⌝ }
+{
+    let first = state.front;
+    let slate = state.places;
+    let a = front(out, at, first);
+    let b = places(out, a, slate);
+    lead(out, b, leader::of(state))
+}

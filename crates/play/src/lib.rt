@@ -1,0 +1,7 @@
+// The replay format, played from a descriptor.
+mod digest;
+mod input;
+mod print;
+mod turns;
+
+pub use turns::play;
