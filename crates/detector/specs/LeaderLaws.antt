@@ -1,4 +1,4 @@
--- The leader has the greatest score, and is the lowest place that has it; and the loop that finds it. Assumes nothing.
+-- The loop that finds the leader, and the ways through its code. Assumes nothing.
 use mathlib.Core.Path.{_≡_, refl, sym, ap, _∙_}
 use mathlib.Core.Bool.{Bool, true, false, cond}
 use mathlib.Core.List.{List, [], _∷_}

@@ -7,3 +7,5 @@ pub mod LeaderLaws
 pub mod Order
 pub mod OrderLaws
 pub mod State
+pub mod Stream
+pub mod StreamLaws

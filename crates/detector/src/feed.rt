@@ -140,10 +140,10 @@ fn advance(
                 extras,
                 weights,
             );
-            let fed_places = fed.places;
+            let part_places = fed.places;
             State {
                 front: next.counted(part),
-                places: fed_places,
+                places: part_places,
             }
         }
         Due::After(count) => {

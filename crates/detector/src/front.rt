@@ -48,10 +48,10 @@ fn due_at(at: usize, context: Context) -> Due
 fn context_at(at: usize, context: Context) -> Context
     ensures { λ r. ⌜ r ≡ contextAt context at ⌝ }
 {
-    if at < Context::MOST {
-        return Context::fresh();
+    if Context::MOST <= at {
+        return context;
     }
-    context
+    Context::fresh()
 }
 
 impl Front {

@@ -1,0 +1,40 @@
+-- The front end over a whole stream, cut into chunks: the front after them, and the bytes that reached the places. Assumes nothing.
+use mathlib.Core.Path.{_≡_}
+use mathlib.Core.Bool.{false, true}
+use mathlib.Core.List.{List, [], _∷_, _++_}
+use mathlib.Core.Logic.{_⊎_}
+use Prim.Native.Nat.{ℕ, _≤_}
+use Rattle.laws.specs.Lists.{any, last}
+use Rattle.context.specs.Head.{isTrigger}
+use Rattle.detector.specs.Front.{bytesIn, reachesOf, frontOf}
+use Rattle.detector.specs.declared.front.Front.{Front}
+
+-- whether a chunk is the last one says nothing of what reaches the places
+unfoldable pub frontAfter : Front → List (List ℕ) → Front
+frontAfter f [] = f
+frontAfter f (x ∷ xs) = frontAfter (frontOf f x false) xs
+
+unfoldable pub reachedBy : Front → List (List ℕ) → List ℕ
+reachedBy f [] = []
+reachedBy f (x ∷ xs) = bytesIn (reachesOf f x) ++ reachedBy (frontOf f x false) xs
+
+-- it begins with a trigger
+abbrev pub Begins : List ℕ → Type 0
+Begins [] = ⊥
+Begins (b ∷ bs) = isTrigger b ≡ true
+
+-- of a stream with a trigger: at most the last three bytes of the head, its last two where it has them, then all that follows
+pub record FromHead (stream reached : List ℕ) : Type 0 where
+  pub head : List ℕ
+  pub rest : List ℕ
+  pub cut : stream ≡ head ++ rest
+  pub plain : any isTrigger head ≡ false
+  pub begins : Begins rest
+  pub kept : ℕ
+  pub two : 2 ≤ kept
+  pub three : kept ≤ 3
+  pub is : reached ≡ last kept head ++ rest
+
+-- of one without: nothing
+abbrev pub Reached : List ℕ → List ℕ → Type 0
+Reached stream reached = ((any isTrigger stream ≡ false) × (reached ≡ [])) ⊎ FromHead stream reached

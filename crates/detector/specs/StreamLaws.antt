@@ -1,0 +1,212 @@
+-- Which bytes reach the places over a whole stream, however it is cut; and the non-ASCII count is that of the stream. Assumes nothing.
+use mathlib.Core.Path.{_≡_, refl, sym, ap, _∙_}
+use mathlib.Core.Bool.{Bool, true, false, cond, _||_}
+use mathlib.Core.List.{List, [], _∷_, _++_, append-nil, append-assoc, flatten}
+use mathlib.Core.Logic.{_⊎_, inl, inr}
+use Prim.Native.Nat.{ℕ, suc, _+_, _-_, _<_, _≤_}
+use native.Mathlib.Nat.{add-zero, zero-add}
+use native.Mathlib.Omega.{arith}
+use lib.Dec.{eqb, ltb}
+use lib.ListN.{length, getD, take, drop, length-take, length-drop, length-append, take-append-drop}
+use lib.Seq.{drop-cons, drop-append-le, drop-append-add}
+use borrow.Author.Tests.{lt-ltb, ltb-true, ltb-false, eq-eqb}
+use Rattle.laws.specs.Lists.{any, count, last, any-append, any-drop, count-append, last-append, last-length}
+use Rattle.octets.specs.Octets.{nonAscii}
+use Rattle.context.specs.Context.{bytesOf, contextOf, pushOf}
+use Rattle.context.specs.ContextLaws.{bytes-context, push-context}
+use Rattle.context.specs.Head.{escape, isTrigger, scanOf, nonAsciiCount}
+use Rattle.context.specs.HeadLaws.{First, FirstAt, scan-first}
+use Rattle.context.specs.declared.Context.{Context}
+use Rattle.context.specs.declared.Scanned.{Scanned}
+use Rattle.context.specs.declared.Scanned.the-variants as scanned
+use Rattle.detector.specs.Front.{fresh, flagOf, triggered, foundAs, triggerOf, Reaches, none, some, reachesAt, reachesBy, reachesOf, bytesIn, contextBy, escBy, frontOf}
+use Rattle.detector.specs.FrontLaws.{plain-count, no-trigger, non-ascii-at, at-least}
+use Rattle.detector.specs.Order.{Saved}
+use Rattle.detector.specs.Stream.{frontAfter, reachedBy, Begins, FromHead, Reached}
+use Rattle.detector.specs.declared.front.Front.{Front}
+use Rattle.detector.specs.declared.front.Trigger.{Trigger}
+use Rattle.detector.specs.declared.front.Trigger.the-variants.{Earlier, Escape, NonAscii, Nowhere}
+
+-- ---- after a trigger all chunks whole
+grown : (e : Bool) (n k : ℕ) → (e || ltb 0 n) ≡ true → (e || ltb 0 (n + k)) ≡ true
+grown true n k h = refl
+grown false n k h = lt-ltb 0 (n + k) (omega (arith, ltb-true 0 n h))
+
+module _ (f : Front) (x : List ℕ) (e : triggered f ≡ true) where
+  whole : bytesIn (reachesOf f x) ≡ x
+  unfolding triggerOf reachesBy
+  whole = rw e
+
+  stays-triggered : triggered (frontOf f x false) ≡ true
+  unfolding triggerOf escBy
+  stays-triggered = rw e (grown (f .«esc_seen») (f .«non_ascii_seen») _ e)
+
+whole-chunks : (f : Front) (xs : List (List ℕ)) → triggered f ≡ true → reachedBy f xs ≡ flatten xs
+unfolding reachedBy flatten
+whole-chunks f [] e = refl
+whole-chunks f (x ∷ xs) e = ap (λ (l : List ℕ). l ++ reachedBy (frontOf f x false) xs) (whole f x e) ∙ ap (λ (l : List ℕ). x ++ l) (whole-chunks (frontOf f x false) xs (stays-triggered f x e))
+
+-- ---- before it: the context is the last two bytes so far
+pub record Quiet (pre : List ℕ) (f : Front) : Type 0 where
+  pub plain : any isTrigger pre ≡ false
+  pub context-is : f .context ≡ contextOf (last 2 pre)
+  pub no-escape : f .«esc_seen» ≡ false
+  pub none-seen : f .«non_ascii_seen» ≡ 0
+
+untriggered : (pre : List ℕ) (f : Front) → Quiet pre f → triggered f ≡ false
+untriggered pre f q = rw (q .no-escape, q .none-seen)
+
+module _ (pre x : List ℕ) (f : Front) (q : Quiet pre f) where
+  found : (r : Scanned) → scanOf x ≡ r → triggerOf f x ≡ foundAs r
+  unfolding triggerOf
+  found r e = rw (untriggered pre f q, e)
+
+  quiet-next : scanOf x ≡ scanned.End → Quiet (pre ++ x) (frontOf f x false)
+  unfolding contextBy escBy reachesBy count
+  quiet-next e =
+      let g = found scanned.End e in
+      record {
+        plain = any-append isTrigger pre x ∙ rw (q .plain, no-trigger x e);
+        context-is = rw (g, q .context-is) (push-context pre x);
+        no-escape = rw g (q .no-escape);
+        none-seen = rw (g, add-zero) (q .none-seen);
+      }
+
+  quiet-none : scanOf x ≡ scanned.End → bytesIn (reachesOf f x) ≡ []
+  unfolding reachesBy
+  quiet-none e = rw (found scanned.End e)
+
+  saved : Saved (f .context)
+  unfolding last any
+  saved =
+      rw (q .context-is)
+      (record {
+        two = short (last 2 pre) (last-length 2 pre);
+        plain = ap (any isTrigger) (bytes-context (last 2 pre) (last-length 2 pre)) ∙ any-drop isTrigger (length pre - 2) pre (q .plain);
+      })
+    where
+      short : (l : List ℕ) → length l ≤ 2 → contextOf l .len ≤ 2
+      short [] h = omega arith
+      short (a ∷ []) h = omega arith
+      short (a ∷ b ∷ l) h = omega arith
+
+  -- ---- the chunk with the trigger at n
+  module _ (n : ℕ) (within : n < length x) where
+    last-plus : last (2 + n) (pre ++ take n x) ≡ last 2 pre ++ take n x
+    unfolding last
+    last-plus =
+        let k = length pre - 2 in
+        let e : length (pre ++ take n x) - (2 + n) ≡ length pre - 2 = rw (length-append, length-take) (omega arith) in
+        rw e (drop-append-le (length pre - 2) pre (take n x) (omega arith))
+
+    -- from what reaches the places of this chunk, with all that follows
+    cut-at : (j : ℕ) (later : List ℕ) → 2 ≤ j → j ≤ 3 → any isTrigger (take n x) ≡ false → isTrigger (getD x n 0) ≡ true → bytesIn (reachesAt (f .context) x n) ≡ last j (pre ++ take n x) ++ drop n x → FromHead (pre ++ (x ++ later)) (bytesIn (reachesAt (f .context) x n) ++ later)
+    cut-at j later h i p t e =
+        record {
+          head = pre ++ take n x;
+          rest = drop n x ++ later;
+          cut = ap (λ (l : List ℕ). pre ++ (l ++ later)) (sym (take-append-drop n x)) ∙ (ap (λ (l : List ℕ). pre ++ l) (append-assoc (take n x) (drop n x) later) ∙ sym (append-assoc pre (take n x) (drop n x ++ later)));
+          plain = any-append isTrigger pre (take n x) ∙ rw (q .plain, p);
+          begins = rw (drop-cons x n 0 within) t;
+          kept = j;
+          two = h;
+          three = i;
+          is = ap (λ (l : List ℕ). l ++ later) e ∙ append-assoc (last j (pre ++ take n x)) (drop n x) later;
+        }
+
+    early : ltb n 2 ≡ true → bytesIn (reachesAt (f .context) x n) ≡ last (2 + n) (pre ++ take n x) ++ drop n x
+    unfolding reachesAt
+    early e =
+        rw (e, last-plus, q .context-is, bytes-context (last 2 pre) (last-length 2 pre))
+        (ap (λ (l : List ℕ). last 2 pre ++ l) (sym (take-append-drop n x)) ∙ sym (append-assoc (last 2 pre) (take n x) (drop n x)))
+
+    late : ltb n 2 ≡ false → bytesIn (reachesAt (f .context) x n) ≡ last 2 (pre ++ take n x) ++ drop n x
+    unfolding reachesAt last
+    late e =
+        let h = ltb-false n 2 e in
+        let l : length (take n x) ≡ n = rw length-take (omega arith) in
+        let a : last 2 (pre ++ take n x) ≡ drop (n - 2) (take n x) = last-append 2 pre (take n x) (rw l (omega arith)) ∙ ap (λ (k : ℕ). drop (k - 2) (take n x)) l in
+        let b : drop (n - 2) (take n x ++ drop n x) ≡ drop (n - 2) (take n x) ++ drop n x = drop-append-le (n - 2) (take n x) (drop n x) (rw l (omega arith)) in
+        rw e (ap (drop (n - 2)) (sym (take-append-drop n x)) ∙ (b ∙ ap (λ (k : List ℕ). k ++ drop n x) (sym a)))
+
+    from-head : (later : List ℕ) → any isTrigger (take n x) ≡ false → isTrigger (getD x n 0) ≡ true → FromHead (pre ++ (x ++ later)) (bytesIn (reachesAt (f .context) x n) ++ later)
+    from-head later p t = pick (ltb n 2) refl
+      where
+        pick : (b : Bool) → ltb n 2 ≡ b → FromHead (pre ++ (x ++ later)) (bytesIn (reachesAt (f .context) x n) ++ later)
+        pick true e = cut-at (2 + n) later (omega arith) (omega (arith, ltb-true n 2 e)) p t (early e)
+        pick false e = cut-at 2 later (omega arith) (omega arith) p t (late e)
+
+  -- an escape, or a non-ASCII byte
+  at-escape : (n : ℕ) (later : List ℕ) → scanOf x ≡ scanned.Escape n → FromHead (pre ++ (x ++ later)) (bytesIn (reachesOf f x) ++ later)
+  unfolding reachesBy
+  at-escape n later e =
+      let w : FirstAt (λ (b : ℕ). b ≡ escape) x n = rw e at (scan-first x) in
+      rw (found (scanned.Escape n) e) (from-head n (w .within) later (w .before) (rw (eq-eqb _ _ (w .there))))
+
+  at-non-ascii : (n : ℕ) (later : List ℕ) → scanOf x ≡ scanned.NonAscii n → FromHead (pre ++ (x ++ later)) (bytesIn (reachesOf f x) ++ later)
+  unfolding reachesBy
+  at-non-ascii n later e =
+      let w = non-ascii-at x n e in
+      rw (found (scanned.NonAscii n) e) (from-head n (w .within) later (w .before) (or-true (eqb (getD x n 0) escape) (w .there)))
+    where
+      or-true : {b : Bool} (a : Bool) → b ≡ true → (a || b) ≡ true
+      or-true true h = refl
+      or-true false h = h
+
+  -- a trigger in this chunk is known from then on
+  now-escape : (n : ℕ) → scanOf x ≡ scanned.Escape n → triggered (frontOf f x false) ≡ true
+  unfolding escBy
+  now-escape n e = rw (found (scanned.Escape n) e)
+
+  now-non-ascii : (n : ℕ) → scanOf x ≡ scanned.NonAscii n → triggered (frontOf f x false) ≡ true
+  unfolding escBy reachesBy
+  now-non-ascii n e =
+      let least = at-least (f .context) saved x n (non-ascii-at x n e) in
+      rw (found (scanned.NonAscii n) e) (seen (f .«esc_seen») (f .«non_ascii_seen») _ least)
+    where
+      seen : (e : Bool) (n k : ℕ) → 1 ≤ k → (e || ltb 0 (n + k)) ≡ true
+      seen true n k h = refl
+      seen false n k h = lt-ltb 0 (n + k) (omega arith)
+
+-- ---- the whole stream
+with-rest : (pre x : List ℕ) (xs : List (List ℕ)) (f : Front) → triggered (frontOf f x false) ≡ true → FromHead (pre ++ (x ++ flatten xs)) (bytesIn (reachesOf f x) ++ flatten xs) → Reached (pre ++ flatten (x ∷ xs)) (reachedBy f (x ∷ xs))
+unfolding reachedBy flatten
+with-rest pre x xs f e h = inr (rw (whole-chunks (frontOf f x false) xs e) h)
+
+-- one chunk, given what holds of the chunks after it as long as no trigger is met
+chunk-reached : (pre x : List ℕ) (xs : List (List ℕ)) (f : Front) → Quiet pre f → (Quiet (pre ++ x) (frontOf f x false) → Reached ((pre ++ x) ++ flatten xs) (reachedBy (frontOf f x false) xs)) → (r : Scanned) → scanOf x ≡ r → Reached (pre ++ flatten (x ∷ xs)) (reachedBy f (x ∷ xs))
+unfolding reachedBy flatten
+chunk-reached pre x xs f q more (scanned.Escape n) e = with-rest pre x xs f (now-escape pre x f q n e) (at-escape pre x f q n (flatten xs) e)
+chunk-reached pre x xs f q more (scanned.NonAscii n) e = with-rest pre x xs f (now-non-ascii pre x f q n e) (at-non-ascii pre x f q n (flatten xs) e)
+chunk-reached pre x xs f q more scanned.End e =
+    let s : pre ++ (x ++ flatten xs) ≡ (pre ++ x) ++ flatten xs = sym (append-assoc pre x (flatten xs)) in
+    let r : bytesIn (reachesOf f x) ++ reachedBy (frontOf f x false) xs ≡ reachedBy (frontOf f x false) xs = ap (λ (l : List ℕ). l ++ reachedBy (frontOf f x false) xs) (quiet-none pre x f q e) in
+    rw (s, r) (more (quiet-next pre x f q e))
+
+reached-from : (pre : List ℕ) (f : Front) (chunks : List (List ℕ)) → Quiet pre f → Reached (pre ++ flatten chunks) (reachedBy f chunks)
+unfolding reachedBy flatten
+reached-from pre f [] q = inl (ap (any isTrigger) (append-nil pre) ∙ q .plain, refl)
+reached-from pre f (x ∷ xs) q = chunk-reached pre x xs f q (λ (n : Quiet (pre ++ x) (frontOf f x false)). reached-from (pre ++ x) (frontOf f x false) xs n) (scanOf x) refl
+
+-- Over a whole stream, however it is cut: nothing without a trigger; else at most the last three bytes of the head, always its
+-- last two where it has them, then all that follows.
+pub stream-reaches : (chunks : List (List ℕ)) → Reached (flatten chunks) (reachedBy fresh chunks)
+unfolding last any
+stream-reaches chunks = reached-from [] fresh chunks (record { plain = refl; context-is = refl; no-escape = refl; none-seen = refl })
+
+-- ---- the count
+counts-so : (f : Front) (chunks : List (List ℕ)) → frontAfter f chunks .«non_ascii_seen» ≡ f .«non_ascii_seen» + nonAsciiCount (reachedBy f chunks)
+unfolding frontAfter reachedBy count
+counts-so f [] = sym (add-zero _)
+counts-so f (x ∷ xs) = counts-so (frontOf f x false) xs ∙ rw count-append (omega arith)
+
+same-count : (stream reached : List ℕ) → Reached stream reached → nonAsciiCount reached ≡ nonAsciiCount stream
+unfolding count last
+same-count stream reached (inl (p, e)) = ap nonAsciiCount e ∙ sym (plain-count stream p)
+same-count stream reached (inr h) =
+    let p = plain-count (last (h .kept) (h .head)) (any-drop isTrigger (length (h .head) - h .kept) (h .head) (h .plain)) in
+    ap nonAsciiCount (h .is) ∙ (count-append nonAscii (last (h .kept) (h .head)) (h .rest) ∙ (rw (p, zero-add) (sym (ap nonAsciiCount (h .cut) ∙ (count-append nonAscii (h .head) (h .rest) ∙ rw (plain-count (h .head) (h .plain), zero-add))))))
+
+-- The non-ASCII count is the number of bytes at or above 0x80 of the whole stream.
+pub stream-counts : (chunks : List (List ℕ)) → frontAfter fresh chunks .«non_ascii_seen» ≡ nonAsciiCount (flatten chunks)
+stream-counts chunks = counts-so fresh chunks ∙ (zero-add _ ∙ same-count (flatten chunks) (reachedBy fresh chunks) (stream-reaches chunks))
