@@ -42,7 +42,7 @@ fn family(
         let state = cases::state(f, i, out);
         let fed = lent::fed(
             state,
-            &chunk[..end],
+            &chunk[0..end],
             false,
             Odd::None,
             classes,

@@ -61,7 +61,7 @@ pub(crate) fn fill_weights(weights: &mut [i32]) {
 }
 
 // The length that slice k is lent with; `most` is what there is.
-fn length(odd: Odd, k: usize, exact: usize, most: usize) -> usize
+pub(crate) fn length(odd: Odd, k: usize, exact: usize, most: usize) -> usize
     requires { ⌜ (0 < exact) × (exact < 100000) ⌝ }
     ensures { λ r. ⌜ r ≤ most ⌝ }
 {

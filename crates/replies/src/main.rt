@@ -72,17 +72,7 @@ fn main() {
     lent::fill_weights(&mut weights);
     let size = pace::size();
     if 0 < size {
-        pace::run(
-            size,
-            &classes[..256],
-            &marks[..128],
-            &pairs[..16384],
-            &index[..19782],
-            &index[..23940],
-            &index[..8836],
-            &extras[..11172],
-            &weights[..17],
-        );
+        pace::run(size, &classes, &marks, &pairs, &index, &extras, &weights);
         return;
     }
     checks(&classes, &marks, &pairs, &index, &extras, &weights);

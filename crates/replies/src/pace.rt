@@ -1,9 +1,18 @@
 // Feeds standard input in chunks of one size, so that instructions can be counted, and prints the sheet.
 ghost use Prim.Native.Nat.{_<_, _≤_};
+use crate::lent;
+use crate::lent::Odd;
 use crate::sheet;
 use detector::feed;
 use detector::state;
 use detector::state::State;
+use kinds::tables::BIG5;
+use kinds::tables::CLASSES;
+use kinds::tables::EUC_KR;
+use kinds::tables::EXTRAS;
+use kinds::tables::JIS;
+use kinds::tables::MARKS;
+use kinds::tables::PAIRS;
 use libc::STDIN_FILENO;
 
 fn chunk(
@@ -113,14 +122,20 @@ pub(crate) fn size() -> usize {
     argument(2)
 }
 
+// A lent length, no more than there is.
+fn exact(exact: usize, most: usize) -> usize
+    requires { ⌜ (0 < exact) × (exact < 100000) ⌝ }
+    ensures { λ r. ⌜ r ≤ most ⌝ }
+{
+    lent::length(Odd::None, 0, exact, most)
+}
+
 pub(crate) fn run(
     size: usize,
     classes: &[u8],
     marks: &[u8],
     pairs: &[i16],
-    big5: &[u32],
-    euckr: &[u32],
-    jis: &[u32],
+    index: &[u32],
     extras: &[i16],
     weights: &[i32],
 )
@@ -132,13 +147,13 @@ pub(crate) fn run(
         (argument(1) % 256) as u8,
         &bytes[..n],
         size,
-        classes,
-        marks,
-        pairs,
-        big5,
-        euckr,
-        jis,
-        extras,
-        weights,
+        &classes[0..exact(CLASSES, classes.len())],
+        &marks[0..exact(MARKS, marks.len())],
+        &pairs[0..exact(PAIRS, pairs.len())],
+        &index[0..exact(BIG5, index.len())],
+        &index[0..exact(EUC_KR, index.len())],
+        &index[0..exact(JIS, index.len())],
+        &extras[0..exact(EXTRAS, extras.len())],
+        &weights[0..exact(weights::COUNT, weights.len())],
     ));
 }

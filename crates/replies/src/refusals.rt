@@ -47,7 +47,7 @@ fn closed(
         let end = groups::size(if i < 2 { 4 } else { 0 });
         let fed = lent::fed(
             state,
-            &chunk[..end],
+            &chunk[0..end],
             i % 2 == 1,
             Odd::None,
             classes,
@@ -80,7 +80,7 @@ fn limit(
     let state = after(met, order::LIMIT - short % 8, false);
     let fed = lent::fed(
         state,
-        &chunk[..len],
+        &chunk[0..len],
         true,
         Odd::None,
         classes,

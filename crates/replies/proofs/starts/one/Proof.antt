@@ -1,15 +1,16 @@
 -- `one` is safe and ends. Assumes nothing.
+use Prim.Native.Nat.{_-_, _≤_}
 use borrow.Author.Needs.{needs}
 use Rattle.replies.proofs.starts.one.Statement.{statement}
 use Rattle.replies.proofs.starts.one.Tie as tie
 
 abbrev Inv-loop : tie.InvT-loop
 Inv-loop bits classes marks pairs index extras weights all₀ some₀ agreed₀ at₀ t12 t13 t14 t15 all some agreed at =
-    ?
+    at ≤ 16
 
 abbrev μ-loop : tie.MeasureT-loop
 μ-loop bits classes marks pairs index extras weights all₀ some₀ agreed₀ at₀ t12 t13 t14 t15 all some agreed at =
-    ?
+    16 - at
 
 start-requires : tie.Need-start-requires Inv-loop μ-loop
 start-requires c κs = search needs
