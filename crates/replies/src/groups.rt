@@ -1,0 +1,154 @@
+// The checks over states by hand, group by group: a line for each.
+ghost use Prim.Native.Nat.{_≤_};
+use crate::cases;
+use crate::cases::Family;
+use crate::lent;
+use crate::lent::Odd;
+use crate::sheet;
+use crate::tally::Tally;
+
+// The bytes of a chunk, a non-ASCII one among them, so that the flag is set where they are fed.
+pub(crate) fn bytes() -> [u8; 4] {
+    [0x61, 0xE0, 0x41, 0x2E]
+}
+
+// As many of them, or all.
+pub(crate) fn size(bytes: usize) -> usize
+    ensures { λ r. ⌜ r ≤ 4 ⌝ }
+{
+    if bytes < 4 {
+        return bytes;
+    }
+    4
+}
+
+// The states of a family, out of order or their neighbours.
+fn family(
+    f: Family,
+    out: bool,
+    classes: &[u8],
+    marks: &[u8],
+    pairs: &[i16],
+    index: &[u32],
+    extras: &[i16],
+    weights: &[i32],
+) -> Tally {
+    let chunk = bytes();
+    let end = size(if f.number == 6 { 0 } else { 4 });
+    let most = cases::most(f);
+    let mut t = Tally::fresh();
+    let mut i: usize = 0;
+    while i < most {
+        let state = cases::state(f, i, out);
+        let fed = lent::fed(
+            state,
+            &chunk[0..end],
+            false,
+            Odd::None,
+            classes,
+            marks,
+            pairs,
+            index,
+            extras,
+            weights,
+        );
+        t = t.with(state, fed);
+        i += 1;
+    }
+    t
+}
+
+// Both lines of a family in one.
+fn print_family(
+    f: Family,
+    classes: &[u8],
+    marks: &[u8],
+    pairs: &[i16],
+    index: &[u32],
+    extras: &[i16],
+    weights: &[i32],
+) {
+    let outside = family(f, true, classes, marks, pairs, index, extras, weights);
+    let inside = family(f, false, classes, marks, pairs, index, extras, weights);
+    cases::name(f);
+    sheet::say(b": ");
+    outside.print();
+    sheet::say(b"; ");
+    inside.print();
+    sheet::say(b"\n");
+}
+
+pub(crate) fn out_of_order(
+    classes: &[u8],
+    marks: &[u8],
+    pairs: &[i16],
+    index: &[u32],
+    extras: &[i16],
+    weights: &[i32],
+) {
+    let mut i: usize = 0;
+    while i < 48 {
+        let f = Family {
+            number: i / 8,
+            kind: i % 8,
+        };
+        print_family(f, classes, marks, pairs, index, extras, weights);
+        i += 1;
+    }
+    let counts = Family { number: 6, kind: 0 };
+    print_family(counts, classes, marks, pairs, index, extras, weights);
+    let context = Family { number: 7, kind: 0 };
+    print_family(context, classes, marks, pairs, index, extras, weights);
+}
+
+// What stands past a context's length: as if it were zeros, to the last field of the state after it.
+pub(crate) fn past(
+    classes: &[u8],
+    marks: &[u8],
+    pairs: &[i16],
+    index: &[u32],
+    extras: &[i16],
+    weights: &[i32],
+) {
+    let chunk = [0xE0u8, 0x41];
+    let mut t = Tally::fresh();
+    let mut i: usize = 0;
+    while i < 5 {
+        let dirty = cases::past(i, true);
+        let clean = cases::past(i, false);
+        let fed = lent::fed(
+            dirty,
+            &chunk,
+            false,
+            Odd::None,
+            classes,
+            marks,
+            pairs,
+            index,
+            extras,
+            weights,
+        );
+        let expected = lent::fed(
+            clean,
+            &chunk,
+            false,
+            Odd::None,
+            classes,
+            marks,
+            pairs,
+            index,
+            extras,
+            weights,
+        );
+        let after = expected.state;
+        t = t.with(after, fed);
+        i += 1;
+    }
+    line(b"past the context, as zeros there: ", t);
+}
+
+pub(crate) fn line(name: &[u8], t: Tally) {
+    sheet::say(name);
+    t.print();
+    sheet::say(b"\n");
+}

@@ -1,0 +1,79 @@
+// Feeds over hand-built states, slices of every wrong length, every start, and document 01's printed case; what each gives
+// is computed and printed. With two arguments, the bits of a start and a chunk's size, it feeds standard input instead.
+mod build;
+mod cases;
+mod ended;
+mod fields;
+mod groups;
+mod lent;
+mod pace;
+mod refusals;
+mod same;
+mod sheet;
+mod stale;
+mod starts;
+mod tally;
+
+use detector::state;
+use lent::Odd;
+
+// Document 01's printed case.
+fn printed(
+    classes: &[u8],
+    marks: &[u8],
+    pairs: &[i16],
+    index: &[u32],
+    extras: &[i16],
+    weights: &[i32],
+) {
+    let chunk = [0x61u8, 0x62, 0x20, 0xE0, 0xE1, 0x2E];
+    let fed = lent::fed(
+        state::start(255),
+        &chunk,
+        true,
+        Odd::None,
+        classes,
+        marks,
+        pairs,
+        index,
+        extras,
+        weights,
+    );
+    let after = fed.state;
+    sheet::print(after);
+}
+
+fn checks(
+    classes: &[u8],
+    marks: &[u8],
+    pairs: &[i16],
+    index: &[u32],
+    extras: &[i16],
+    weights: &[i32],
+) {
+    printed(classes, marks, pairs, index, extras, weights);
+    groups::out_of_order(classes, marks, pairs, index, extras, weights);
+    groups::past(classes, marks, pairs, index, extras, weights);
+    refusals::all(classes, marks, pairs, index, extras, weights);
+    refusals::first(classes, marks, pairs, index, extras, weights);
+    starts::every(classes, marks, pairs, index, extras, weights);
+}
+
+fn main() {
+    let mut classes = [0u8; 257];
+    let mut marks = [0u8; 129];
+    let mut pairs = [0i16; 16385];
+    let index = [0u32; 23941];
+    let extras = [0i16; 11173];
+    let mut weights = [0i32; 18];
+    lent::fill_classes(&mut classes);
+    lent::fill_marks(&mut marks);
+    lent::fill_pairs(&mut pairs);
+    lent::fill_weights(&mut weights);
+    let size = pace::size();
+    if 0 < size {
+        pace::run(size, &classes, &marks, &pairs, &index, &extras, &weights);
+        return;
+    }
+    checks(&classes, &marks, &pairs, &index, &extras, &weights);
+}
