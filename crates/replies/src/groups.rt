@@ -6,6 +6,8 @@ use crate::lent;
 use crate::lent::Odd;
 use crate::sheet;
 use crate::tally::Tally;
+use detector::feed::Fed;
+use detector::state::State;
 
 // The bytes of a chunk, a non-ASCII one among them, so that the flag is set where they are fed.
 pub(crate) fn bytes() -> [u8; 4] {
@@ -101,6 +103,31 @@ pub(crate) fn out_of_order(
     print_family(context, classes, marks, pairs, index, extras, weights);
 }
 
+// A chunk that is a trigger at its first byte.
+fn triggered(
+    state: State,
+    classes: &[u8],
+    marks: &[u8],
+    pairs: &[i16],
+    index: &[u32],
+    extras: &[i16],
+    weights: &[i32],
+) -> Fed {
+    let chunk = [0xE0u8, 0x41];
+    lent::fed(
+        state,
+        &chunk,
+        false,
+        Odd::None,
+        classes,
+        marks,
+        pairs,
+        index,
+        extras,
+        weights,
+    )
+}
+
 // What stands past a context's length: as if it were zeros, to the last field of the state after it.
 pub(crate) fn past(
     classes: &[u8],
@@ -110,36 +137,13 @@ pub(crate) fn past(
     extras: &[i16],
     weights: &[i32],
 ) {
-    let chunk = [0xE0u8, 0x41];
     let mut t = Tally::fresh();
     let mut i: usize = 0;
     while i < 5 {
         let dirty = cases::past(i, true);
         let clean = cases::past(i, false);
-        let fed = lent::fed(
-            dirty,
-            &chunk,
-            false,
-            Odd::None,
-            classes,
-            marks,
-            pairs,
-            index,
-            extras,
-            weights,
-        );
-        let expected = lent::fed(
-            clean,
-            &chunk,
-            false,
-            Odd::None,
-            classes,
-            marks,
-            pairs,
-            index,
-            extras,
-            weights,
-        );
+        let fed = triggered(dirty, classes, marks, pairs, index, extras, weights);
+        let expected = triggered(clean, classes, marks, pairs, index, extras, weights);
         let after = expected.state;
         t = t.with(after, fed);
         i += 1;

@@ -55,6 +55,7 @@ fn checks(
     groups::out_of_order(classes, marks, pairs, index, extras, weights);
     groups::past(classes, marks, pairs, index, extras, weights);
     refusals::all(classes, marks, pairs, index, extras, weights);
+    sheet::say(b"wrong at once:");
     refusals::first(classes, marks, pairs, index, extras, weights);
     starts::every(classes, marks, pairs, index, extras, weights);
 }

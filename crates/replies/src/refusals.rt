@@ -6,6 +6,7 @@ use crate::lent::Odd;
 use crate::same;
 use crate::sheet;
 use crate::tally::Tally;
+use detector::feed::Fed;
 use detector::state::State;
 use places::order;
 use places::place::Score;
@@ -201,6 +202,22 @@ fn wrong(i: usize) -> State {
     state
 }
 
+// The reply's number. Answers whether the state is as it was.
+fn told(before: State, fed: Fed) -> bool {
+    let after = fed.state;
+    let reply = fed.reply;
+    sheet::say(b" ");
+    sheet::number(reply.number() as u64);
+    same::same_state(before, after)
+}
+
+fn odd(i: usize) -> Odd {
+    if i / 2 % 2 == 1 {
+        return Odd::Short(i);
+    }
+    Odd::None
+}
+
 // The replies to all sixteen, from nothing wrong to everything wrong; how many left the state as it was.
 pub(crate) fn first(
     classes: &[u8],
@@ -213,19 +230,13 @@ pub(crate) fn first(
     let chunk = groups::bytes();
     let mut kept: u64 = 0;
     let mut i: usize = 0;
-    sheet::say(b"wrong at once:");
     while i < 16 {
         let state = wrong(i);
-        let odd = if i / 2 % 2 == 1 {
-            Odd::Short(i)
-        } else {
-            Odd::None
-        };
         let fed = lent::fed(
             state,
             &chunk,
             true,
-            odd,
+            odd(i),
             classes,
             marks,
             pairs,
@@ -233,11 +244,7 @@ pub(crate) fn first(
             extras,
             weights,
         );
-        let after = fed.state;
-        let reply = fed.reply;
-        sheet::say(b" ");
-        sheet::number(reply.number() as u64);
-        if same::same_state(state, after) {
+        if told(state, fed) {
             kept = kept % 1000 + 1;
         }
         i += 1;

@@ -5,10 +5,10 @@ use Rattle.replies.proofs.groups.past.Statement.{statement}
 use Rattle.replies.proofs.groups.past.Tie as tie
 
 abbrev Inv-loop : tie.InvT-loop
-Inv-loop classes marks pairs index extras weights chunk t₀ i₀ t15 t i = i ≤ 5
+Inv-loop classes marks pairs index extras weights t₀ i₀ t14 t i = i ≤ 5
 
 abbrev μ-loop : tie.MeasureT-loop
-μ-loop classes marks pairs index extras weights chunk t₀ i₀ t15 t i = 5 - i
+μ-loop classes marks pairs index extras weights t₀ i₀ t14 t i = 5 - i
 
 fresh-requires : tie.Need-fresh-requires Inv-loop μ-loop
 fresh-requires c κs = search needs
@@ -22,17 +22,11 @@ past-requires c κs = search needs
 past-requires-2 : tie.Need-past-requires-2 Inv-loop μ-loop
 past-requires-2 c κs = search needs
 
-slice-aggregate-fed : tie.Need-slice-aggregate-fed Inv-loop μ-loop
-slice-aggregate-fed c = search needs
+triggered-requires : tie.Need-triggered-requires Inv-loop μ-loop
+triggered-requires c κs = search needs
 
-fed-requires : tie.Need-fed-requires Inv-loop μ-loop
-fed-requires c κs = search needs
-
-slice-aggregate-fed-2 : tie.Need-slice-aggregate-fed-2 Inv-loop μ-loop
-slice-aggregate-fed-2 c = search needs
-
-fed-requires-2 : tie.Need-fed-requires-2 Inv-loop μ-loop
-fed-requires-2 c κs = search needs
+triggered-requires-2 : tie.Need-triggered-requires-2 Inv-loop μ-loop
+triggered-requires-2 c κs = search needs
 
 with-requires : tie.Need-with-requires Inv-loop μ-loop
 with-requires c κs = search needs
@@ -65,10 +59,8 @@ past-spec =
     loop-holds
     past-requires
     past-requires-2
-    slice-aggregate-fed
-    fed-requires
-    slice-aggregate-fed-2
-    fed-requires-2
+    triggered-requires
+    triggered-requires-2
     with-requires
     add-i
     loop-less
