@@ -1,16 +1,15 @@
 -- What a feed replies, what it gives and what it leaves. Assumes nothing.
-use mathlib.Core.Path.{_≡_}
 use mathlib.Core.Bool.{Bool, false, cond}
 use mathlib.Core.List.{List}
-use Prim.Native.Nat.{ℕ, _+_, _-_, _≤_}
+use Prim.Native.Nat.{ℕ, _-_}
 use lib.Dec.{ltb}
 use lib.ListN.{length}
 use Rattle.laws.specs.Limit.{limit}
-use Rattle.kinds.specs.Tables.{Tables, Sized, sizedB}
+use Rattle.kinds.specs.Tables.{Tables, sizedB}
 use Rattle.places.specs.Slate.{feedAll}
 use Rattle.places.specs.declared.place.Place.{Place}
 use Rattle.detector.specs.Front.{flagOf, Reaches, none, some, reachesOf, frontOf}
-use Rattle.detector.specs.Order.{InOrder, stateB}
+use Rattle.detector.specs.Order.{stateB}
 use Rattle.detector.specs.declared.feed.Fed.{Fed}
 use Rattle.detector.specs.declared.feed.Reply.{Reply}
 use Rattle.detector.specs.declared.feed.Reply.the-variants.{Accepted, Closed, WrongLength, TooLong, NotInOrder}
@@ -67,19 +66,3 @@ feedBy t s xs last Accept = accepted (advanceOf t s xs last)
 
 abbrev pub feedOf : Tables → State → List ℕ → Bool → Fed
 feedOf t s xs last = feedBy t s xs last (refusalOf t s xs)
-
--- ---- what the code keeps
--- what passed the tests
-pub record Fit (t : Tables) (s : State) (xs : List ℕ) : Type 0 where
-  pub sized : Sized t
-  pub in-order : InOrder s
-  pub going : s .front .closed ≡ false
-  pub short : s .front .bytes + length xs ≤ limit
-
--- with any reply but 4 the state is in order
-abbrev pub StaysIn : Reply → State → Type 0
-StaysIn (Accepted flag) s = InOrder s
-StaysIn (Closed flag) s = InOrder s
-StaysIn (WrongLength flag) s = InOrder s
-StaysIn (TooLong flag) s = InOrder s
-StaysIn NotInOrder s = Unit {0}

@@ -17,12 +17,15 @@ use Rattle.context.specs.Head.{nonAsciiCount}
 use Rattle.kinds.specs.Tables.{Tables, Sized, sizedB}
 use Rattle.kinds.specs.TablesLaws.{sized-true}
 use Rattle.places.specs.Order.{SlateFor}
-use Rattle.places.specs.Slate.{feedAll, slated, slatedOf, AllKept, KeptIf}
+use Rattle.places.specs.Slate.{feedAll, slated, slatedOf}
+use Rattle.places.specs.Kept.{AllKept, KeptIf}
 use Rattle.places.specs.SlateLaws.{slated-fit, fed-kept, feed-all-nil, nil-kept, fed-slate, slate-more, slate-still}
 use Rattle.places.specs.declared.place.Place.{Place}
 use Rattle.places.specs.declared.slate.Slated.{Slated}
-use Rattle.detector.specs.Feed.{verdictOf, refusalOf, placesBy, advanceOf, fed, accepted, feedBy, feedOf, Fit, StaysIn}
-use Rattle.detector.specs.Front.{flagOf, triggered, triggerOf, Reaches, none, some, reachesBy, reachesOf, bytesIn, counted, uncounted, frontOf, dueAs, DueBy}
+use Rattle.detector.specs.Feed.{verdictOf, refusalOf, placesBy, advanceOf, fed, accepted, feedBy, feedOf}
+use Rattle.detector.specs.Kept.{Fit, StaysIn}
+use Rattle.detector.specs.Front.{flagOf, triggered, triggerOf, Reaches, none, some, reachesBy, reachesOf, bytesIn, counted, uncounted, frontOf}
+use Rattle.detector.specs.Due.{dueAs, DueBy}
 use Rattle.detector.specs.FrontLaws.{plain-count}
 use Rattle.detector.specs.Order.{InOrder, stateB}
 use Rattle.detector.specs.OrderLaws.{order-true, KeptBy, advance-in-order}

@@ -19,7 +19,8 @@ use Rattle.context.specs.HeadLaws.{First, FirstAt, scan-first}
 use Rattle.context.specs.declared.Context.{Context}
 use Rattle.context.specs.declared.Scanned.{Scanned}
 use Rattle.context.specs.declared.Scanned.the-variants as scanned
-use Rattle.detector.specs.Front.{flagOf, triggered, foundAs, triggerOf, Reaches, none, some, reachesAt, reachesBy, bytesIn, contextAt, contextBy, escBy, dueAs, DueAt, DueBy, offsetOf, Here, WithinAt, WithinBy}
+use Rattle.detector.specs.Front.{flagOf, triggered, foundAs, triggerOf, Reaches, none, some, reachesAt, reachesBy, bytesIn, contextAt, contextBy, escBy}
+use Rattle.detector.specs.Due.{dueAs, DueAt, DueBy, offsetOf, Here, WithinAt, WithinBy}
 use Rattle.detector.specs.Order.{Saved}
 use Rattle.detector.specs.declared.front.Due.{Due}
 use Rattle.detector.specs.declared.front.Due.the-variants.{Nothing, Part, After}

@@ -1,9 +1,13 @@
+pub mod Due
 pub mod Feed
 pub mod FeedLaws
 pub mod Front
 pub mod FrontLaws
+pub mod Kept
 pub mod Leader
 pub mod LeaderLaws
+pub mod Leads
+pub mod LeadsLaws
 pub mod Order
 pub mod OrderLaws
 pub mod State

@@ -22,10 +22,12 @@ use Rattle.context.specs.declared.Scanned.the-variants as scanned
 use Rattle.kinds.specs.Tables.{Tables}
 use Rattle.places.specs.Order.{SlateFor, slateB}
 use Rattle.places.specs.OrderLaws.{slate-true, true-slate}
-use Rattle.places.specs.Slate.{feedAll, AllKept}
+use Rattle.places.specs.Slate.{feedAll}
+use Rattle.places.specs.Kept.{AllKept}
 use Rattle.places.specs.SlateLaws.{start-for, slate-more, slate-still, fed-slate, nil-kept}
 use Rattle.places.specs.declared.place.Place.{Place}
-use Rattle.detector.specs.Feed.{placesBy, advanceOf, Fit}
+use Rattle.detector.specs.Feed.{placesBy, advanceOf}
+use Rattle.detector.specs.Kept.{Fit}
 use Rattle.detector.specs.Front.{flagOf, triggered, foundAs, triggerOf, Reaches, none, some, reachesAt, reachesBy, reachesOf, bytesIn, contextAt, contextBy, escBy, counted, uncounted, frontOf}
 use Rattle.detector.specs.FrontLaws.{push-len, push-saved, empty-saved, no-trigger, escape-at, non-ascii-at, at-most, at-least}
 use Rattle.detector.specs.Order.{Saved, FrontFor, InOrder, plainB, savedB, frontB, stateB}

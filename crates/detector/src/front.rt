@@ -1,7 +1,8 @@
 // The front end: what is known of the bytes so far, and which bytes of a chunk reach the places.
 ghost use mathlib.Core.Path.{_≡_};
 ghost use lib.ListN.{length};
-ghost use Rattle.detector.specs.Front.{fresh, flagOf, triggered, triggerOf, DueAt, DueBy, WithinAt, WithinBy, contextAt, contextBy, escBy, uncounted, counted, Roomy};
+ghost use Rattle.detector.specs.Front.{fresh, flagOf, triggered, triggerOf, contextAt, contextBy, escBy, uncounted, counted};
+ghost use Rattle.detector.specs.Due.{DueAt, DueBy, WithinAt, WithinBy, Roomy};
 ghost use Rattle.detector.specs.Order.{plainB, savedB, frontB};
 use context;
 use context::Context;

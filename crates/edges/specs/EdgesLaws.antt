@@ -49,7 +49,8 @@ use Rattle.places.specs.Slate as slate
 use Rattle.places.specs.SlateLaws.{feed-all-nil}
 use Rattle.places.specs.declared.place.Place.{Place}
 use Rattle.places.specs.declared.place.Score.the-variants.{Live}
-use Rattle.detector.specs.Feed.{placesBy, advanceOf, accepted, feedOf, Fit}
+use Rattle.detector.specs.Feed.{placesBy, advanceOf, accepted, feedOf}
+use Rattle.detector.specs.Kept.{Fit}
 use Rattle.detector.specs.FeedLaws.{judged-accept, feed-accepted}
 use Rattle.detector.specs.Front.{fresh, foundAs, triggerOf, some, reachesAt, reachesBy, reachesOf, contextBy, escBy}
 use Rattle.detector.specs.Order.{InOrder}

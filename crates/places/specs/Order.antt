@@ -2,19 +2,16 @@
 use mathlib.Core.Path.{_≡_}
 use mathlib.Core.Bool.{Bool, true, false, _&&_, _||_}
 use mathlib.Core.List.{List}
-use Prim.Native.Nat.{ℕ, _+_, _*_, _≤_}
+use Prim.Native.Nat.{ℕ, _*_, _≤_}
 use lib.Dec.{eqb, leb}
 use lib.IntN.{ℤ, pos, natAbs}
-use lib.ListN.{length}
 use Rattle.laws.specs.Each.{eachB, EachFrom}
 use Rattle.laws.specs.Limit.{limit}
 use Rattle.weights.specs.Weights.{perByte}
 use Rattle.kinds.specs.Fresh.{freshB}
 use Rattle.kinds.specs.Kinds.{kindOf, freshIn}
 use Rattle.kinds.specs.Sound.{reachOf, SoundFor, soundB}
-use Rattle.kinds.specs.Tables.{Singles, Tables}
 use Rattle.kinds.specs.declared.machine.Machine.{Machine}
-use Rattle.places.specs.Place.{feedOf, endOf}
 use Rattle.places.specs.declared.place.Place.{Place}
 use Rattle.places.specs.declared.place.Score.{Score}
 use Rattle.places.specs.declared.place.Score.the-variants.{None, Live}
@@ -64,12 +61,3 @@ placeB n closed fed k p =
 
 unfoldable pub slateB : ℕ → Bool → Bool → List Place → Bool
 slateB n closed fed ps = leb n limit && eachB (placeB n closed fed) 0 ps
-
--- ---- what feeding keeps
--- a part: as long as the stream is within the limit
-pub record Kept (t : Tables) (last : Bool) (xs : List ℕ) (p : Place) : Type 0 where
-  pub kept : (n k : ℕ) → n + length xs ≤ limit → PlaceFor n false true k p → PlaceFor (n + length xs) last true k (feedOf t last xs p)
-
--- the end of the stream
-pub record Ended (s : Singles) (w : List ℤ) (p : Place) : Type 0 where
-  pub kept : (n k : ℕ) → PlaceFor n false true k p → PlaceFor n true true k (endOf s w p)

@@ -34,7 +34,8 @@ use Rattle.kinds.specs.Tables.{Singles, Tables}
 use Rattle.kinds.specs.declared.machine.Machine.{Machine}
 use Rattle.kinds.specs.declared.machine.Machine.the-variants.{Utf8, Iso2022Jp, EucKr, Big5, Caseless, Logical, Visual, ArabicFrench}
 use Rattle.places.specs.Order.{ScoredFor, ZeroOrNone, FedOr, PlaceFor, SlateFor, scoredB, zeroOrNoneB, unfedB, placeB, slateB}
-use Rattle.places.specs.Place.{place, placeAs, partOf, fedFrom, feedOf, endFrom, endOf}
+use Rattle.places.specs.Place.{place, placeAs, partOf, fedFrom, feedOf}
+use Rattle.places.specs.Steps.{endFrom, endOf}
 use Rattle.places.specs.declared.place.Place.{Place}
 use Rattle.places.specs.declared.place.Score.{Score}
 use Rattle.places.specs.declared.place.Score.the-variants.{None, Live}

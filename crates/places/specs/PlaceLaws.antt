@@ -22,9 +22,11 @@ use Rattle.kinds.specs.Tables.{Singles, Tables, Sized}
 use Rattle.kinds.specs.declared.machine.Machine.{Machine}
 use Rattle.kinds.specs.declared.machine.Ran.{Ran as MachineRan}
 use Rattle.kinds.specs.declared.machine.Ran.the-variants as ran
-use Rattle.places.specs.Order.{ScoredFor, PlaceFor, Kept, Ended}
+use Rattle.places.specs.Order.{ScoredFor, PlaceFor}
+use Rattle.places.specs.Kept.{Kept, Ended}
 use Rattle.places.specs.OrderLaws.{SmallOut, Ran, ran-sound, fed-for, end-for, end-passed, reach-more, scored-more}
-use Rattle.places.specs.Place.{place, placeAs, partOf, fedFrom, feedOf, settledOf, endFrom, endOf, FitSum, SmallScore, Closes, FitEnd, FitPart}
+use Rattle.places.specs.Place.{place, placeAs, partOf, fedFrom, feedOf}
+use Rattle.places.specs.Steps.{settledOf, endFrom, endOf, FitSum, SmallScore, Closes, FitEnd, FitPart}
 use Rattle.places.specs.declared.place.Place.{Place}
 use Rattle.places.specs.declared.place.Score.{Score}
 use Rattle.places.specs.declared.place.Score.the-variants.{None, Live}

@@ -5,7 +5,6 @@ use Prim.Native.Nat.{ℕ, _/_, _%_}
 use lib.Dec.{eqb, leb}
 use lib.IntN.{pos}
 use lib.ListN.{length}
-use Rattle.laws.specs.Each.{EachFrom}
 use Rattle.laws.specs.Limit.{limit}
 use Rattle.big5.specs.Scoring as big5
 use Rattle.euckr.specs.Scoring as euckr
@@ -18,7 +17,7 @@ use Rattle.utf8.specs.Utf8 as utf-8
 use Rattle.kinds.specs.Tables.{Tables, sizedB}
 use Rattle.kinds.specs.declared.machine.Machine.{Machine}
 use Rattle.kinds.specs.declared.machine.Machine.the-variants.{Utf8, Iso2022Jp, EucKr, Big5, Caseless, Logical, Visual, ArabicFrench}
-use Rattle.places.specs.Order.{slateB, Kept}
+use Rattle.places.specs.Order.{slateB}
 use Rattle.places.specs.Place.{place, feedOf}
 use Rattle.places.specs.declared.place.Place.{Place}
 use Rattle.places.specs.declared.place.Score.{Score}
@@ -49,11 +48,3 @@ slated fit ps = record { fit = fit; places = ps }
 
 unfoldable pub slatedOf : Tables → Bool → List ℕ → List Place → Slated
 slatedOf t last xs ps = cond (fitB t xs ps) (slated true (feedAll t last xs ps)) (slated false ps)
-
--- what was fed stays in order
-abbrev pub AllKept : Tables → Bool → List ℕ → List Place → Type 0
-AllKept t last xs ps = EachFrom (λ (k : ℕ) (p : Place). Kept t last xs p) 0 ps
-
-abbrev pub KeptIf : Bool → Tables → Bool → List ℕ → List Place → Type 0
-KeptIf true t last xs ps = AllKept t last xs ps
-KeptIf false t last xs ps = Unit {0}

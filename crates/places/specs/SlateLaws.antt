@@ -30,11 +30,13 @@ use Rattle.kinds.specs.Tables.{Tables, Sized, sizedB}
 use Rattle.kinds.specs.TablesLaws.{sized-true, true-sized}
 use Rattle.kinds.specs.declared.machine.Machine.{Machine}
 use Rattle.kinds.specs.declared.machine.Machine.the-variants.{Utf8, Iso2022Jp, EucKr, Big5, Caseless, Logical, Visual, ArabicFrench}
-use Rattle.places.specs.Order.{ScoredFor, ZeroOrNone, FedOr, PlaceFor, SlateFor, slateB, Kept}
+use Rattle.places.specs.Order.{ScoredFor, ZeroOrNone, FedOr, PlaceFor, SlateFor, slateB}
+use Rattle.places.specs.Kept.{Kept, AllKept, KeptIf}
 use Rattle.places.specs.OrderLaws.{slate-true, true-slate, scored-more}
-use Rattle.places.specs.Place.{place, feedOf, SmallScore, FitPart}
+use Rattle.places.specs.Place.{place, feedOf}
+use Rattle.places.specs.Steps.{SmallScore, FitPart}
 use Rattle.places.specs.PlaceLaws.{feed-nil}
-use Rattle.places.specs.Slate.{takenOf, startOf, feedAll, fitB, slated, slatedOf, AllKept, KeptIf}
+use Rattle.places.specs.Slate.{takenOf, startOf, feedAll, fitB, slated, slatedOf}
 use Rattle.places.specs.declared.place.Place.{Place}
 use Rattle.places.specs.declared.place.Score.{Score}
 use Rattle.places.specs.declared.place.Score.the-variants.{None, Live}

@@ -2,8 +2,9 @@
 ghost use mathlib.Core.Path.{_≡_};
 ghost use lib.ListN.{length};
 ghost use Rattle.kinds.specs.Tables.{single, singles, tables};
-ghost use Rattle.places.specs.Order.{Ended, Kept};
-ghost use Rattle.places.specs.Place.{endOf, feedOf, settledOf, FitEnd, FitPart, FitSum};
+ghost use Rattle.places.specs.Kept.{Ended, Kept};
+ghost use Rattle.places.specs.Place.{feedOf};
+ghost use Rattle.places.specs.Steps.{endOf, settledOf, FitEnd, FitPart, FitSum};
 use kinds::machine::Machine;
 use kinds::machine::Ran;
 

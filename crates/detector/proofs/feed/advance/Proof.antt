@@ -7,7 +7,8 @@ use lib.ListN.{length, take, drop, length-take, length-drop}
 use Rattle.laws.specs.Lists.{rest-is}
 use Rattle.kinds.specs.Tables.{Tables, single, singles, tables}
 use Rattle.detector.specs.FeedLaws.{way-nothing, way-part, way-after}
-use Rattle.detector.specs.Front.{triggerOf, uncounted, DueBy, Roomy}
+use Rattle.detector.specs.Front.{triggerOf, uncounted}
+use Rattle.detector.specs.Due.{DueBy, Roomy}
 use Rattle.detector.specs.FrontLaws.{part-within, after-within, after-new}
 use borrow.Author.Needs.{needs}
 use Rattle.detector.proofs.feed.advance.Statement.{statement}

@@ -9,7 +9,7 @@ count-requires : tie.Need-count-requires
 count-requires c κs = search needs
 
 returns : tie.Need-returns
-returns c = let a = c .before .before .args in (due-after (a .context) (a .at) (c .count .result) (c .before .if1 .taken) (c .count .ensures), c .count .ensures)
+returns c = let a = c .before .before .args in (due-after (a .context) (a .at) (c .count .result) (omega (arith, c .before .if1 .taken)) (c .count .ensures), c .count .ensures)
 
 returns-2 : tie.Need-returns-2
 returns-2 c = let a = c .before .args in (due-part (a .context) (a .at) (omega (arith, c .if1 .left)), omega arith)

@@ -5,7 +5,7 @@ use lib.IntN.{ℤ, natAbs, _+ℤ_}
 use mir.Syntax.{w64}
 use mir.Val.{SFits}
 use Rattle.laws.specs.Sizes.{abs-add, fits64, thru}
-use Rattle.places.specs.Place.{settledOf}
+use Rattle.places.specs.Steps.{settledOf}
 use borrow.Author.Needs.{needs}
 use Rattle.places.proofs.place.Place.settled.Statement.{statement}
 use Rattle.places.proofs.place.Place.settled.Tie as tie
