@@ -10,7 +10,7 @@ use Rattle.context.specs.declared.Context.{Context}
 use Rattle.detector.specs.Front.{Reaches, none, some, reachesAt, reachesBy}
 use Rattle.detector.specs.declared.front.Due.{Due}
 use Rattle.detector.specs.declared.front.Due.the-variants.{Nothing, Part, After}
-use Rattle.detector.specs.declared.front.Front.{Front}
+use Rattle.state.specs.declared.front.Front.{Front}
 use Rattle.detector.specs.declared.front.Trigger.{Trigger}
 use Rattle.detector.specs.declared.front.Trigger.the-variants.{Earlier, Escape, NonAscii, Nowhere}
 

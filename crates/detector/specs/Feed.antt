@@ -5,32 +5,18 @@ use Prim.Native.Nat.{ℕ, _-_}
 use lib.Dec.{ltb}
 use lib.ListN.{length}
 use Rattle.laws.specs.Limit.{limit}
-use Rattle.kinds.specs.Tables.{Tables, sizedB}
+use Rattle.lengths.specs.Tables.{Tables, sizedB}
 use Rattle.places.specs.Slate.{feedAll}
 use Rattle.places.specs.declared.place.Place.{Place}
-use Rattle.detector.specs.Front.{flagOf, Reaches, none, some, reachesOf, frontOf}
-use Rattle.detector.specs.Order.{stateB}
+use Rattle.state.specs.State.{flagOf}
+use Rattle.detector.specs.Front.{Reaches, none, some, reachesOf, frontOf}
+use Rattle.state.specs.Order.{stateB}
 use Rattle.detector.specs.declared.feed.Fed.{Fed}
-use Rattle.detector.specs.declared.feed.Reply.{Reply}
-use Rattle.detector.specs.declared.feed.Reply.the-variants.{Accepted, Closed, WrongLength, TooLong, NotInOrder}
+use Rattle.state.specs.declared.reply.Reply.{Reply}
+use Rattle.state.specs.declared.reply.Reply.the-variants.{Accepted, Closed, WrongLength, TooLong, NotInOrder}
 use Rattle.detector.specs.declared.feed.Verdict.{Verdict}
 use Rattle.detector.specs.declared.feed.Verdict.the-variants.{Accept, Refuse}
-use Rattle.detector.specs.declared.state.State.{State}
-
--- ---- the reply table: number and flag
-unfoldable pub numberOf : Reply → ℕ
-numberOf (Accepted flag) = 0
-numberOf (Closed flag) = 1
-numberOf (WrongLength flag) = 2
-numberOf (TooLong flag) = 3
-numberOf NotInOrder = 4
-
-unfoldable pub replyFlag : Reply → Bool
-replyFlag (Accepted flag) = flag
-replyFlag (Closed flag) = flag
-replyFlag (WrongLength flag) = flag
-replyFlag (TooLong flag) = flag
-replyFlag NotInOrder = false
+use Rattle.state.specs.declared.State.{State}
 
 -- ---- the tests, 4, 1, 2, 3: the state, the close, the lent lengths, the bytes accepted and this chunk's
 unfoldable pub verdictOf : State → Bool → ℕ → Verdict

@@ -14,8 +14,8 @@ use Rattle.context.specs.Context.{bytesOf}
 use Rattle.context.specs.ContextLaws.{bytes-most}
 use Rattle.context.specs.declared.Context.{Context}
 use Rattle.context.specs.Head.{nonAsciiCount}
-use Rattle.kinds.specs.Tables.{Tables, Sized, sizedB}
-use Rattle.kinds.specs.TablesLaws.{sized-true}
+use Rattle.lengths.specs.Tables.{Tables, Sized, sizedB}
+use Rattle.lengths.specs.TablesLaws.{sized-true}
 use Rattle.places.specs.Order.{SlateFor}
 use Rattle.places.specs.Slate.{feedAll, slated, slatedOf}
 use Rattle.places.specs.Kept.{AllKept, KeptIf}
@@ -24,20 +24,22 @@ use Rattle.places.specs.declared.place.Place.{Place}
 use Rattle.places.specs.declared.slate.Slated.{Slated}
 use Rattle.detector.specs.Feed.{verdictOf, refusalOf, placesBy, advanceOf, fed, accepted, feedBy, feedOf}
 use Rattle.detector.specs.Kept.{Fit, StaysIn}
-use Rattle.detector.specs.Front.{flagOf, triggered, triggerOf, Reaches, none, some, reachesBy, reachesOf, bytesIn, counted, uncounted, frontOf}
+use Rattle.state.specs.State.{flagOf, triggered}
+use Rattle.detector.specs.Front.{triggerOf, Reaches, none, some, reachesBy, reachesOf, bytesIn, counted, uncounted, frontOf}
 use Rattle.detector.specs.Due.{dueAs, DueBy}
 use Rattle.detector.specs.FrontLaws.{plain-count}
-use Rattle.detector.specs.Order.{InOrder, stateB}
-use Rattle.detector.specs.OrderLaws.{order-true, KeptBy, advance-in-order}
+use Rattle.state.specs.Order.{InOrder, stateB}
+use Rattle.state.specs.OrderLaws.{order-true}
+use Rattle.detector.specs.OrderLaws.{KeptBy, advance-in-order}
 use Rattle.detector.specs.declared.feed.Fed.{Fed}
-use Rattle.detector.specs.declared.feed.Reply.{Reply}
-use Rattle.detector.specs.declared.feed.Reply.the-variants.{Accepted, Closed, WrongLength, TooLong, NotInOrder}
+use Rattle.state.specs.declared.reply.Reply.{Reply}
+use Rattle.state.specs.declared.reply.Reply.the-variants.{Accepted, Closed, WrongLength, TooLong, NotInOrder}
 use Rattle.detector.specs.declared.feed.Verdict.{Verdict}
 use Rattle.detector.specs.declared.feed.Verdict.the-variants.{Accept, Refuse}
 use Rattle.detector.specs.declared.front.Due.{Due}
 use Rattle.detector.specs.declared.front.Due.the-variants.{Nothing, Part, After}
-use Rattle.detector.specs.declared.front.Front.{Front}
-use Rattle.detector.specs.declared.state.State.{State}
+use Rattle.state.specs.declared.front.Front.{Front}
+use Rattle.state.specs.declared.State.{State}
 
 pub off : (t : Bool) → not t ≡ true → t ≡ false
 off true e = sym e

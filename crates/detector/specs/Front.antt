@@ -1,5 +1,5 @@
 -- The front end: document 01's four rules. Assumes nothing.
-use mathlib.Core.Bool.{Bool, true, false, cond, _||_}
+use mathlib.Core.Bool.{Bool, true, cond}
 use mathlib.Core.List.{List, [], _∷_, _++_}
 use Prim.Native.Nat.{ℕ, _+_, _-_}
 use lib.Dec.{ltb}
@@ -9,19 +9,10 @@ use Rattle.context.specs.Head.{scanOf, nonAsciiCount}
 use Rattle.context.specs.declared.Context.{Context}
 use Rattle.context.specs.declared.Scanned.{Scanned}
 use Rattle.context.specs.declared.Scanned.the-variants as scanned
-use Rattle.detector.specs.declared.front.Front.{Front}
+use Rattle.state.specs.State.{triggered}
+use Rattle.state.specs.declared.front.Front.{Front}
 use Rattle.detector.specs.declared.front.Trigger.{Trigger}
 use Rattle.detector.specs.declared.front.Trigger.the-variants.{Earlier, Escape, NonAscii, Nowhere}
-
-abbrev pub fresh : Front
-fresh = record { context = contextOf []; «esc_seen» = false; «non_ascii_seen» = 0; closed = false; bytes = 0 }
-
--- whether any non-ASCII byte has reached the places so far
-abbrev pub flagOf : Front → Bool
-flagOf f = ltb 0 (f .«non_ascii_seen»)
-
-abbrev pub triggered : Front → Bool
-triggered f = f .«esc_seen» || flagOf f
 
 -- ---- 1. before any trigger, the scan stops at the first byte that is 0x1B or non-ASCII
 abbrev pub foundAs : Scanned → Trigger

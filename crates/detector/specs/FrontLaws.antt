@@ -19,12 +19,13 @@ use Rattle.context.specs.HeadLaws.{First, FirstAt, scan-first}
 use Rattle.context.specs.declared.Context.{Context}
 use Rattle.context.specs.declared.Scanned.{Scanned}
 use Rattle.context.specs.declared.Scanned.the-variants as scanned
-use Rattle.detector.specs.Front.{flagOf, triggered, foundAs, triggerOf, Reaches, none, some, reachesAt, reachesBy, bytesIn, contextAt, contextBy, escBy}
+use Rattle.state.specs.State.{flagOf, triggered}
+use Rattle.detector.specs.Front.{foundAs, triggerOf, Reaches, none, some, reachesAt, reachesBy, bytesIn, contextAt, contextBy, escBy}
 use Rattle.detector.specs.Due.{dueAs, DueAt, DueBy, offsetOf, Here, WithinAt, WithinBy}
-use Rattle.detector.specs.Order.{Saved}
+use Rattle.state.specs.Order.{Saved}
 use Rattle.detector.specs.declared.front.Due.{Due}
 use Rattle.detector.specs.declared.front.Due.the-variants.{Nothing, Part, After}
-use Rattle.detector.specs.declared.front.Front.{Front}
+use Rattle.state.specs.declared.front.Front.{Front}
 use Rattle.detector.specs.declared.front.Trigger.{Trigger}
 use Rattle.detector.specs.declared.front.Trigger.the-variants.{Earlier, Escape, NonAscii, Nowhere}
 
@@ -169,10 +170,6 @@ pub push-saved : (c : Context) (xs : List ℕ) → Saved c → any isTrigger xs 
 push-saved c xs s e =
     let all : any isTrigger (bytesOf c ++ xs) ≡ false = any-append isTrigger (bytesOf c) xs ∙ rw (s .plain, e) in
     record { two = push-len c xs (s .two) .0; plain = ap (any isTrigger) (push-bytes c xs) ∙ plain-last (bytesOf c ++ xs) all }
-
-pub empty-saved : Saved (contextOf [])
-unfolding any
-empty-saved = record { two = omega arith; plain = refl }
 
 -- ---- counts
 module _ (c : Context) (s : Saved c) (xs : List ℕ) (n : ℕ) where

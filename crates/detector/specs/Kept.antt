@@ -5,11 +5,11 @@ use mathlib.Core.List.{List}
 use Prim.Native.Nat.{ℕ, _+_, _≤_}
 use lib.ListN.{length}
 use Rattle.laws.specs.Limit.{limit}
-use Rattle.kinds.specs.Tables.{Tables, Sized}
-use Rattle.detector.specs.Order.{InOrder}
-use Rattle.detector.specs.declared.feed.Reply.{Reply}
-use Rattle.detector.specs.declared.feed.Reply.the-variants.{Accepted, Closed, WrongLength, TooLong, NotInOrder}
-use Rattle.detector.specs.declared.state.State.{State}
+use Rattle.lengths.specs.Tables.{Tables, Sized}
+use Rattle.state.specs.Order.{InOrder}
+use Rattle.state.specs.declared.reply.Reply.{Reply}
+use Rattle.state.specs.declared.reply.Reply.the-variants.{Accepted, Closed, WrongLength, TooLong, NotInOrder}
+use Rattle.state.specs.declared.State.{State}
 
 -- what passed the tests
 pub record Fit (t : Tables) (s : State) (xs : List ℕ) : Type 0 where

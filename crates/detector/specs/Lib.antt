@@ -4,12 +4,6 @@ pub mod FeedLaws
 pub mod Front
 pub mod FrontLaws
 pub mod Kept
-pub mod Leader
-pub mod LeaderLaws
-pub mod Leads
-pub mod LeadsLaws
-pub mod Order
 pub mod OrderLaws
-pub mod State
 pub mod Stream
 pub mod StreamLaws

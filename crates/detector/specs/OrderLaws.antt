@@ -1,4 +1,4 @@
--- The in-order test decides; a start is in order, and so is what an accepted chunk leaves. Assumes nothing.
+-- What an accepted chunk leaves is in order. Assumes nothing.
 use mathlib.Core.Path.{_≡_, refl, sym, ap, subst, _∙_}
 use mathlib.Core.Bool.{Bool, true, false, cond, not, _&&_, _||_}
 use mathlib.Core.List.{List, [], _∷_, _++_}
@@ -7,10 +7,10 @@ use native.Mathlib.Nat.{add-zero, zero-add}
 use native.Mathlib.Omega.{arith}
 use lib.Dec.{eqb, leb, ltb}
 use lib.ListN.{length, take, drop, length-take, length-drop}
-use borrow.Author.Tests.{eqb-true, eqb-false, eq-eqb, ne-eqb, leb-true, le-leb, lt-ltb, le-ltb, ltb-true, ltb-false}
+use borrow.Author.Tests.{lt-ltb, ltb-true}
 use Rattle.laws.specs.Limit.{limit}
 use Rattle.laws.specs.Lists.{any, count, count-most}
-use Rattle.laws.specs.Tests.{both, neither, either}
+use Rattle.laws.specs.Tests.{either}
 use Rattle.octets.specs.Octets.{ascii, nonAscii}
 use Rattle.context.specs.Context.{bytesOf, contextOf}
 use Rattle.context.specs.ContextLaws.{bytes-most}
@@ -19,95 +19,23 @@ use Rattle.context.specs.HeadLaws.{FirstAt}
 use Rattle.context.specs.declared.Context.{Context}
 use Rattle.context.specs.declared.Scanned.{Scanned}
 use Rattle.context.specs.declared.Scanned.the-variants as scanned
-use Rattle.kinds.specs.Tables.{Tables}
-use Rattle.places.specs.Order.{SlateFor, slateB}
-use Rattle.places.specs.OrderLaws.{slate-true, true-slate}
+use Rattle.lengths.specs.Tables.{Tables}
+use Rattle.places.specs.Order.{SlateFor}
 use Rattle.places.specs.Slate.{feedAll}
 use Rattle.places.specs.Kept.{AllKept}
-use Rattle.places.specs.SlateLaws.{start-for, slate-more, slate-still, fed-slate, nil-kept}
+use Rattle.places.specs.SlateLaws.{slate-more, slate-still, fed-slate, nil-kept}
 use Rattle.places.specs.declared.place.Place.{Place}
 use Rattle.detector.specs.Feed.{placesBy, advanceOf}
 use Rattle.detector.specs.Kept.{Fit}
-use Rattle.detector.specs.Front.{flagOf, triggered, foundAs, triggerOf, Reaches, none, some, reachesAt, reachesBy, reachesOf, bytesIn, contextAt, contextBy, escBy, counted, uncounted, frontOf}
-use Rattle.detector.specs.FrontLaws.{push-len, push-saved, empty-saved, no-trigger, escape-at, non-ascii-at, at-most, at-least}
-use Rattle.detector.specs.Order.{Saved, FrontFor, InOrder, plainB, savedB, frontB, stateB}
-use Rattle.detector.specs.State.{startOf}
-use Rattle.detector.specs.declared.front.Front.{Front}
+use Rattle.state.specs.State.{triggered}
+use Rattle.detector.specs.Front.{foundAs, triggerOf, Reaches, none, some, reachesAt, reachesBy, reachesOf, bytesIn, contextAt, contextBy, escBy, counted, uncounted, frontOf}
+use Rattle.detector.specs.FrontLaws.{push-len, push-saved, no-trigger, escape-at, non-ascii-at, at-most, at-least}
+use Rattle.state.specs.OrderLaws.{empty-saved}
+use Rattle.state.specs.Order.{Saved, FrontFor, InOrder}
+use Rattle.state.specs.declared.front.Front.{Front}
 use Rattle.detector.specs.declared.front.Trigger.{Trigger}
 use Rattle.detector.specs.declared.front.Trigger.the-variants.{Earlier, Escape, NonAscii, Nowhere}
-use Rattle.detector.specs.declared.state.State.{State}
-
--- ---- the test decides, in both directions
-not-true : (t : Bool) → not t ≡ true → t ≡ false
-not-true true e = sym e
-not-true false e = refl
-
-plain-true : (b : ℕ) → plainB b ≡ true → isTrigger b ≡ false
-unfolding plainB
-plain-true b e = not-true (isTrigger b) e
-
-true-plain : (b : ℕ) → isTrigger b ≡ false → plainB b ≡ true
-unfolding plainB
-true-plain b e = ap not e
-
--- the bytes of a context, by its length
-saved-at : (n a b : ℕ) → (eqb n 0 || plainB a) ≡ true → (ltb n 2 || plainB b) ≡ true → n ≤ 2 → any isTrigger (take n (a ∷ b ∷ [])) ≡ false
-unfolding any
-saved-at zero a b p q h = refl
-saved-at (suc zero) a b p q h = rw (plain-true a p)
-saved-at (suc (suc zero)) a b p q h = rw (plain-true a p, plain-true b q)
-saved-at (suc (suc (suc n))) a b p q h = absurd (omega (arith, h))
-
-first-at : (n a b : ℕ) → any isTrigger (take n (a ∷ b ∷ [])) ≡ false → (eqb n 0 || plainB a) ≡ true
-unfolding any
-first-at zero a b e = refl
-first-at (suc zero) a b e = true-plain a (neither (isTrigger a) _ e .0)
-first-at (suc (suc n)) a b e = rw (ne-eqb (suc (suc n)) 0 (λ (q : suc (suc n) ≡ 0). omega (arith, q))) (true-plain a (neither (isTrigger a) _ e .0))
-
-second-at : (n a b : ℕ) → any isTrigger (take n (a ∷ b ∷ [])) ≡ false → (ltb n 2 || plainB b) ≡ true
-unfolding any
-second-at zero a b e = refl
-second-at (suc zero) a b e = refl
-second-at (suc (suc n)) a b e = rw (le-ltb (suc (suc n)) 2 (omega arith)) (true-plain b (neither (isTrigger b) _ (neither (isTrigger a) _ e .1) .0))
-
-saved-true : (c : Context) → savedB c ≡ true → Saved c
-unfolding savedB
-saved-true c e =
-    let x = both _ _ e in
-    let y = both _ _ (x .1) in
-    let h = leb-true _ _ (x .0) in
-    record { two = h; plain = saved-at (c .len) (c .first) (c .second) (y .0) (y .1) h }
-
-true-saved : (c : Context) → Saved c → savedB c ≡ true
-unfolding savedB
-true-saved c s = rw (le-leb _ _ (s .two), first-at (c .len) (c .first) (c .second) (s .plain), second-at (c .len) (c .first) (c .second) (s .plain))
-
-front-true : (f : Front) → frontB f ≡ true → FrontFor f
-unfolding frontB
-front-true f e =
-    let a = both _ _ e in
-    let b = both _ _ (a .1) in
-    let c = both _ _ (b .1) in
-    record { most = leb-true _ _ (a .0); counted = leb-true _ _ (b .0); held = leb-true _ _ (c .0); saved = saved-true (f .context) (c .1) }
-
-true-front : (f : Front) → FrontFor f → frontB f ≡ true
-unfolding frontB
-true-front f o = rw (le-leb _ _ (o .most), le-leb _ _ (o .counted), le-leb _ _ (o .held), true-saved (f .context) (o .saved))
-
--- The test decides the definition.
-pub order-true : (s : State) → stateB s ≡ true → InOrder s
-unfolding stateB
-order-true s e =
-    let a = both _ _ e in
-    record { front = front-true (s .front) (a .0); slate = slate-true (s .front .bytes) (s .front .closed) (triggered (s .front)) (s .places) (a .1) }
-
-pub true-order : (s : State) → InOrder s → stateB s ≡ true
-unfolding stateB
-true-order s o = rw (true-front (s .front) (o .front), true-slate (s .front .bytes) (s .front .closed) (triggered (s .front)) (s .places) (o .slate))
-
--- ---- a start
-pub start-in-order : (bits : ℕ) → InOrder (startOf bits)
-start-in-order bits = record { front = record { most = omega arith; counted = omega arith; held = omega arith; saved = empty-saved }; slate = start-for bits }
+use Rattle.state.specs.declared.State.{State}
 
 -- ---- an accepted chunk
 -- what the code knows of the places that it fed

@@ -7,7 +7,7 @@ use Prim.Native.Nat.{ℕ, _≤_}
 use Rattle.laws.specs.Lists.{any, last}
 use Rattle.context.specs.Head.{isTrigger}
 use Rattle.detector.specs.Front.{bytesIn, reachesOf, frontOf}
-use Rattle.detector.specs.declared.front.Front.{Front}
+use Rattle.state.specs.declared.front.Front.{Front}
 
 -- whether a chunk is the last one says nothing of what reaches the places
 unfoldable pub frontAfter : Front → List (List ℕ) → Front

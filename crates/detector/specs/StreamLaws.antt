@@ -19,11 +19,12 @@ use Rattle.context.specs.HeadLaws.{First, FirstAt, scan-first}
 use Rattle.context.specs.declared.Context.{Context}
 use Rattle.context.specs.declared.Scanned.{Scanned}
 use Rattle.context.specs.declared.Scanned.the-variants as scanned
-use Rattle.detector.specs.Front.{fresh, flagOf, triggered, foundAs, triggerOf, Reaches, none, some, reachesAt, reachesBy, reachesOf, bytesIn, contextBy, escBy, frontOf}
+use Rattle.state.specs.State.{fresh, flagOf, triggered}
+use Rattle.detector.specs.Front.{foundAs, triggerOf, Reaches, none, some, reachesAt, reachesBy, reachesOf, bytesIn, contextBy, escBy, frontOf}
 use Rattle.detector.specs.FrontLaws.{plain-count, no-trigger, non-ascii-at, at-least}
-use Rattle.detector.specs.Order.{Saved}
+use Rattle.state.specs.Order.{Saved}
 use Rattle.detector.specs.Stream.{frontAfter, reachedBy, Begins, FromHead, Reached}
-use Rattle.detector.specs.declared.front.Front.{Front}
+use Rattle.state.specs.declared.front.Front.{Front}
 use Rattle.detector.specs.declared.front.Trigger.{Trigger}
 use Rattle.detector.specs.declared.front.Trigger.the-variants.{Earlier, Escape, NonAscii, Nowhere}
 

@@ -4,24 +4,17 @@ ghost use mathlib.Core.Path.{_≡_};
 ghost use Prim.Native.Nat.{_+_, _≤_};
 ghost use lib.ListN.{length};
 ghost use Rattle.laws.specs.Limit.{limit};
-ghost use Rattle.kinds.specs.Tables.{single, singles, tables};
-ghost use Rattle.detector.specs.Feed.{numberOf, replyFlag, verdictOf, accepted, advanceOf, feedOf};
+ghost use Rattle.lengths.specs.Tables.{single, singles, tables};
+ghost use Rattle.state.specs.Order.{InOrder};
+ghost use Rattle.detector.specs.Feed.{verdictOf, accepted, advanceOf, feedOf};
 ghost use Rattle.detector.specs.Kept.{Fit, StaysIn};
-ghost use Rattle.detector.specs.Order.{InOrder};
+use crate::front;
 use crate::front::Due;
-use crate::state::State;
-use kinds::tables;
+use lengths;
 use places::order;
 use places::slate;
-
-// With each but the last: whether any non-ASCII byte has reached the places so far.
-pub enum Reply {
-    Accepted(bool),
-    Closed(bool),
-    WrongLength(bool),
-    TooLong(bool),
-    NotInOrder,
-}
+use state::State;
+use state::reply::Reply;
 
 pub struct Fed {
     pub state: State,
@@ -32,33 +25,6 @@ pub struct Fed {
 pub enum Verdict {
     Accept,
     Refuse(Reply),
-}
-
-impl Reply {
-    // Its number in document 01.
-    pub fn number(self) -> u8
-        ensures { λ r. ⌜ r ≡ numberOf self ⌝ }
-    {
-        match self {
-            Reply::Accepted(_) => 0,
-            Reply::Closed(_) => 1,
-            Reply::WrongLength(_) => 2,
-            Reply::TooLong(_) => 3,
-            Reply::NotInOrder => 4,
-        }
-    }
-
-    pub fn flag(self) -> bool
-        ensures { λ r. ⌜ r ≡ replyFlag self ⌝ }
-    {
-        match self {
-            Reply::Accepted(flag) => flag,
-            Reply::Closed(flag) => flag,
-            Reply::WrongLength(flag) => flag,
-            Reply::TooLong(flag) => flag,
-            Reply::NotInOrder => false,
-        }
-    }
 }
 
 // The tests, in document 01's order: 4, 1, 2, 3.
@@ -110,9 +76,9 @@ fn advance(
 {
     let front = state.front;
     let places = state.places;
-    let trigger = front.trigger(chunk);
-    let next = front.after(trigger, chunk, last);
-    match front.due(trigger) {
+    let trigger = front::trigger_in(front, chunk);
+    let next = front::after(front, trigger, chunk, last);
+    match front::due_by(front, trigger) {
         Due::Nothing => State {
             front: next,
             places,
@@ -143,7 +109,7 @@ fn advance(
             );
             let part_places = fed.places;
             State {
-                front: next.counted(part),
+                front: front::counted(next, part),
                 places: part_places,
             }
         }
@@ -197,7 +163,7 @@ fn advance(
             );
             let fed_places = fed.places;
             State {
-                front: next.counted(chunk),
+                front: front::counted(next, chunk),
                 places: fed_places,
             }
         }
@@ -240,7 +206,7 @@ pub fn feed(
     ensures { λ r. ⌜ r ≡ feedOf (tables (singles (single (now (classes4 .entry)) (now (marks4 .entry)) (now (pairs4 .entry))) (single (now (classes5 .entry)) (now (marks5 .entry)) (now (pairs5 .entry))) (single (now (classes6 .entry)) (now (marks6 .entry)) (now (pairs6 .entry))) (single (now (classes7 .entry)) (now (marks7 .entry)) (now (pairs7 .entry)))) (now (big5 .entry)) (now (euckr .entry)) (now (jis .entry)) (now (extras .entry)) (now (weights .entry))) state (now (chunk .entry)) last ⌝ }
     ensures { λ r. ⌜ StaysIn (r .reply) (r .state) ⌝ }
 {
-    let sized = tables::are_sized(
+    let sized = lengths::are_sized(
         classes4,
         marks4,
         pairs4,

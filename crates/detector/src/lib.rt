@@ -1,5 +1,3 @@
-// The public calls: start, feed with its replies, the in-order test, the leader.
+// Feeding a stream, chunk by chunk.
 pub mod feed;
-pub mod front;
-pub mod leader;
-pub mod state;
+mod front;

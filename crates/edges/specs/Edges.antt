@@ -15,7 +15,7 @@ use Rattle.big5.specs.Scoring as big5
 use Rattle.big5.specs.declared.LatinCj.the-variants.{Cj, Other}
 use Rattle.euckr.specs.Edges.{Word}
 use Rattle.euckr.specs.declared.EucKr.{EucKr as EucKrRecord}
-use Rattle.kinds.specs.Tables.{Tables, tables}
+use Rattle.lengths.specs.Tables.{Tables, tables}
 use Rattle.kinds.specs.declared.machine.Machine.the-variants.{Utf8, Iso2022Jp, EucKr, Big5}
 use Rattle.places.specs.Place.{place}
 use Rattle.places.specs.Slate.{takenOf, feedAll}
@@ -23,8 +23,8 @@ use Rattle.places.specs.declared.place.Place.{Place}
 use Rattle.places.specs.declared.place.Score.the-variants.{None, Live}
 use Rattle.detector.specs.Feed.{feedOf}
 use Rattle.detector.specs.Front.{some, reachesOf}
-use Rattle.detector.specs.State.{startOf}
-use Rattle.detector.specs.declared.state.State.{State}
+use Rattle.state.specs.State.{startOf}
+use Rattle.state.specs.declared.State.{State}
 
 -- the state after a chunk that is not the last
 abbrev pub after : Tables → State → List ℕ → State

@@ -39,8 +39,8 @@ use Rattle.euckr.specs.Scoring as euckr
 use Rattle.euckr.specs.declared.EucKr.{EucKr as EucKrRecord}
 use Rattle.kinds.specs.Kinds.{Outcome, freshIn, stepOf}
 use Rattle.kinds.specs.KindsLaws.{run-utf-8, run-iso2022jp, run-big5, run-euckr}
-use Rattle.kinds.specs.Tables.{Tables, Sized, sizedB}
-use Rattle.kinds.specs.TablesLaws.{lengths-of, true-sized}
+use Rattle.lengths.specs.Tables.{Tables, Sized, sizedB}
+use Rattle.lengths.specs.TablesLaws.{lengths-of, true-sized}
 use Rattle.kinds.specs.declared.machine.Machine.{Machine}
 use Rattle.kinds.specs.declared.machine.Machine.the-variants.{Utf8, Iso2022Jp, EucKr, Big5}
 use Rattle.places.specs.Place.{place, placeAs, feedOf as feedPlace}
@@ -52,12 +52,13 @@ use Rattle.places.specs.declared.place.Score.the-variants.{Live}
 use Rattle.detector.specs.Feed.{placesBy, advanceOf, accepted, feedOf}
 use Rattle.detector.specs.Kept.{Fit}
 use Rattle.detector.specs.FeedLaws.{judged-accept, feed-accepted}
-use Rattle.detector.specs.Front.{fresh, foundAs, triggerOf, some, reachesAt, reachesBy, reachesOf, contextBy, escBy}
-use Rattle.detector.specs.Order.{InOrder}
-use Rattle.detector.specs.OrderLaws.{true-order, start-in-order, advance-in-order}
-use Rattle.detector.specs.State.{startOf}
+use Rattle.state.specs.State.{fresh, startOf}
+use Rattle.detector.specs.Front.{foundAs, triggerOf, some, reachesAt, reachesBy, reachesOf, contextBy, escBy}
+use Rattle.state.specs.Order.{InOrder}
+use Rattle.state.specs.OrderLaws.{true-order, start-in-order}
+use Rattle.detector.specs.OrderLaws.{advance-in-order}
 use Rattle.detector.specs.declared.feed.Fed.{Fed}
-use Rattle.detector.specs.declared.state.State.{State}
+use Rattle.state.specs.declared.State.{State}
 use Rattle.edges.specs.Edges.{after, FedAs, Leaves, withoutLong, Adds, EdgeTable}
 
 -- ---- a chunk that passes the tests

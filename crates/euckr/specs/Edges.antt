@@ -13,7 +13,7 @@ use Rattle.laws.specs.Still.{Lives}
 use Rattle.octets.specs.Octets.{between}
 use Rattle.pairs.specs.Pairs.{isLead, decoded, firstOf}
 use Rattle.pairs.specs.PairsLaws.{lead-bounds}
-use Rattle.pairs.specs.Ranges.{inside, below, above}
+use Rattle.pairs.specs.Ranges.{inside, below, above, range-true}
 use Rattle.pairs.specs.Sequences.{first-lead}
 use Rattle.pairs.specs.declared.Event.the-variants.{Pending, Point}
 use Rattle.pairs.specs.declared.Held.{Held}
@@ -21,7 +21,6 @@ use Rattle.pairs.specs.declared.Held.the-variants.{Nothing, Score}
 use Rattle.euckr_decoder.specs.Standard.{isTrail, pointerOf, isMapped, decodeOf}
 use Rattle.euckr_decoder.specs.StandardLaws.{is-mapped}
 use Rattle.euckr.specs.Scoring.{extraOf, isEuc, isHangul, hangulAfter, longOf, scored, holdsOf, aroundOf, innerOf, outerOf, hangulOf, otherOf, unitOf, extensionOf, after, strayOf, errorOf, freshOf, Lent, lent, stepOf}
-use Rattle.pairs.specs.Ranges.{range-true}
 use Rattle.euckr.specs.Ways.{step-on}
 use Rattle.euckr.specs.declared.EucKr.{EucKr}
 use Rattle.euckr.specs.declared.LatinKorean.{LatinKorean}

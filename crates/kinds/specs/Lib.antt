@@ -1,9 +1,5 @@
-pub mod Fresh
-pub mod FreshLaws
 pub mod KindLaws
 pub mod Kinds
 pub mod KindsLaws
 pub mod Sound
 pub mod SoundLaws
-pub mod Tables
-pub mod TablesLaws

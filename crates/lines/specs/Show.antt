@@ -8,12 +8,12 @@ use Rattle.kinds.specs.declared.machine.Machine.{Machine}
 use Rattle.kinds.specs.declared.machine.Machine.the-variants.{Utf8, Iso2022Jp, EucKr, Big5, Caseless, Logical, Visual, ArabicFrench}
 use Rattle.places.specs.declared.place.Place.{Place}
 use Rattle.places.specs.declared.place.Score as score
-use Rattle.detector.specs.Leader.{leaderOf}
-use Rattle.detector.specs.Feed as reply
-use Rattle.detector.specs.declared.feed.Reply.{Reply}
-use Rattle.detector.specs.declared.front.Front.{Front}
-use Rattle.detector.specs.declared.leader.Leader as leader
-use Rattle.detector.specs.declared.state.State.{State}
+use Rattle.state.specs.Leader.{leaderOf}
+use Rattle.state.specs.Reply as reply
+use Rattle.state.specs.declared.reply.Reply.{Reply}
+use Rattle.state.specs.declared.front.Front.{Front}
+use Rattle.state.specs.declared.leader.Leader as leader
+use Rattle.state.specs.declared.State.{State}
 use Rattle.lines.specs.Fields.{utf8Text, iso2022jpText, euckrText, big5Text, caselessText, logicalText, visualText, arabicFrenchText}
 use Rattle.lines.specs.Names.{placeName}
 

@@ -8,16 +8,16 @@ ghost use Rattle.scribe.specs.Text.{ascii};
 use crate::fields;
 use crate::names;
 use context::Context;
-use detector::feed::Reply;
-use detector::front::Front;
-use detector::leader;
-use detector::leader::Leader;
-use detector::state::State;
 use kinds::machine::Machine;
 use places::place::Place;
 use places::place::Score;
 use places::place::Slate;
 use scribe::page;
+use state::State;
+use state::front::Front;
+use state::leader;
+use state::leader::Leader;
+use state::reply::Reply;
 
 fn end_line(out: &mut [u8], at: usize) -> usize
     ensures { λ r. ⌜ page (now (out .exit)) r ≡ onto (page (now (out .entry)) at) newline ⌝ }

@@ -8,7 +8,7 @@ use lib.IntN.{ℤ, pos, natAbs}
 use Rattle.laws.specs.Each.{eachB, EachFrom}
 use Rattle.laws.specs.Limit.{limit}
 use Rattle.weights.specs.Weights.{perByte}
-use Rattle.kinds.specs.Fresh.{freshB}
+use Rattle.records.specs.Fresh.{freshB}
 use Rattle.kinds.specs.Kinds.{kindOf, freshIn}
 use Rattle.kinds.specs.Sound.{reachOf, SoundFor, soundB}
 use Rattle.kinds.specs.declared.machine.Machine.{Machine}

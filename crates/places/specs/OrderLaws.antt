@@ -23,14 +23,14 @@ use Rattle.euckr.specs.EucKr as euckr
 use Rattle.euckr.specs.declared.EucKr.{EucKr as EucKrRecord}
 use Rattle.iso2022jp.specs.Iso2022Jp as iso2022jp
 use Rattle.utf8.specs.Utf8 as utf-8
-use Rattle.kinds.specs.Fresh.{freshB}
-use Rattle.kinds.specs.FreshLaws.{fresh-true, true-fresh}
+use Rattle.records.specs.Fresh.{freshB}
+use Rattle.records.specs.FreshLaws.{fresh-true, true-fresh}
 use Rattle.kinds.specs.KindLaws.{Alike, fresh-alike, alike-kind, alike-reach, reach-open, run-alike, close-alike}
 use Rattle.kinds.specs.Kinds.{Outcome, kindOf, freshIn, stepOf, closeOf, WeighedIn}
 use Rattle.kinds.specs.KindsLaws.{utf-8-still, iso2022jp-still}
 use Rattle.kinds.specs.Sound.{takesSpace, reachOf, SoundFor, soundB}
 use Rattle.kinds.specs.SoundLaws.{sound-true, true-sound, sound-more, fresh-sound, run-sound, close-sound}
-use Rattle.kinds.specs.Tables.{Singles, Tables}
+use Rattle.lengths.specs.Tables.{Singles, Tables}
 use Rattle.kinds.specs.declared.machine.Machine.{Machine}
 use Rattle.kinds.specs.declared.machine.Machine.the-variants.{Utf8, Iso2022Jp, EucKr, Big5, Caseless, Logical, Visual, ArabicFrench}
 use Rattle.places.specs.Order.{ScoredFor, ZeroOrNone, FedOr, PlaceFor, SlateFor, scoredB, zeroOrNoneB, unfedB, placeB, slateB}

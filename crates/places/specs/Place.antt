@@ -6,7 +6,7 @@ use lib.IntN.{ℤ}
 use Rattle.laws.specs.Run.{none, live, run}
 use Rattle.laws.specs.Still.{ended}
 use Rattle.kinds.specs.Kinds.{Outcome, freshIn, stepOf, closeOf}
-use Rattle.kinds.specs.Tables.{Tables}
+use Rattle.lengths.specs.Tables.{Tables}
 use Rattle.kinds.specs.declared.machine.Machine.{Machine}
 use Rattle.places.specs.declared.place.Place.{Place}
 use Rattle.places.specs.declared.place.Score.{Score}

@@ -18,7 +18,7 @@ use Rattle.kinds.specs.Kinds.{Outcome, kindOf, freshIn, stepOf, closeOf, ranAs,
 use Rattle.kinds.specs.KindsLaws.{ran-fit, closed-fit}
 use Rattle.kinds.specs.Sound.{reachOf, SoundFor}
 use Rattle.kinds.specs.SoundLaws.{sound-more, fresh-sound}
-use Rattle.kinds.specs.Tables.{Singles, Tables, Sized}
+use Rattle.lengths.specs.Tables.{Singles, Tables, Sized}
 use Rattle.kinds.specs.declared.machine.Machine.{Machine}
 use Rattle.kinds.specs.declared.machine.Ran.{Ran as MachineRan}
 use Rattle.kinds.specs.declared.machine.Ran.the-variants as ran

@@ -7,11 +7,11 @@ ghost use Rattle.places.specs.Order.{scoredB, zeroOrNoneB, unfedB, place
 use crate::place::Place;
 use crate::place::Score;
 use crate::place::Slate;
-use kinds::fresh;
 use kinds::machine::Machine;
-use kinds::sound;
-use kinds::tests::both;
-use kinds::tests::either;
+use lengths::tests::both;
+use lengths::tests::either;
+use records::fresh;
+use records::sound;
 
 // Bytes of a stream at most.
 pub const LIMIT: u64 = 268_435_456;

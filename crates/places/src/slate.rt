@@ -1,6 +1,6 @@
 // All eight places.
 ghost use mathlib.Core.Path.{_≡_};
-ghost use Rattle.kinds.specs.Tables.{single, singles, tables, Sized};
+ghost use Rattle.lengths.specs.Tables.{single, singles, tables, Sized};
 ghost use lib.ListN.{length};
 ghost use Prim.Native.Nat.{_<_, _≤_};
 ghost use mathlib.Core.Bool.{true, false};
@@ -19,8 +19,8 @@ use caseless::Caseless;
 use euckr::EucKr;
 use iso2022jp::Iso2022Jp;
 use kinds::machine::Machine;
-use kinds::tables;
-use kinds::tests::both;
+use lengths;
+use lengths::tests::both;
 use logical::Logical;
 use utf8::Utf8;
 use visual::Visual;
@@ -154,7 +154,7 @@ pub fn feed(
     ensures { λ r. ⌜ r ≡ slatedOf (tables (singles (single (now (classes4 .entry)) (now (marks4 .entry)) (now (pairs4 .entry))) (single (now (classes5 .entry)) (now (marks5 .entry)) (now (pairs5 .entry))) (single (now (classes6 .entry)) (now (marks6 .entry)) (now (pairs6 .entry))) (single (now (classes7 .entry)) (now (marks7 .entry)) (now (pairs7 .entry)))) (now (big5 .entry)) (now (euckr .entry)) (now (jis .entry)) (now (extras .entry)) (now (weights .entry))) last (now (part .entry)) places ⌝ }
     ensures { λ r. ⌜ KeptIf (r .fit) (tables (singles (single (now (classes4 .entry)) (now (marks4 .entry)) (now (pairs4 .entry))) (single (now (classes5 .entry)) (now (marks5 .entry)) (now (pairs5 .entry))) (single (now (classes6 .entry)) (now (marks6 .entry)) (now (pairs6 .entry))) (single (now (classes7 .entry)) (now (marks7 .entry)) (now (pairs7 .entry)))) (now (big5 .entry)) (now (euckr .entry)) (now (jis .entry)) (now (extras .entry)) (now (weights .entry))) last (now (part .entry)) places ⌝ }
 {
-    let sized = tables::are_sized(
+    let sized = lengths::are_sized(
         classes4,
         marks4,
         pairs4,

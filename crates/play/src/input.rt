@@ -4,7 +4,7 @@ ghost use mathlib.Core.Path.{_≡_};
 ghost use Prim.Native.Nat.{_+_, _-_, _≤_};
 ghost use lib.ListN.{length};
 ghost use Rattle.play.specs.Within.{Within, Filled};
-use scribe::tables;
+use reader::tables;
 
 // Where the bytes at hand begin and end in the window; `whole` until more were wanted than the input has.
 pub(crate) struct Span {

@@ -1,9 +1,9 @@
 // Answers go to standard output, or into a digest.
 use crate::digest::Digest;
-use detector::feed::Reply;
-use detector::state::State;
 use libc::STDOUT_FILENO;
 use lines::show;
+use state::State;
+use state::reply::Reply;
 
 pub(crate) enum Sink {
     Out,

@@ -8,10 +8,10 @@ use crate::input;
 use crate::input::Span;
 use crate::print::Sink;
 use detector::feed;
-use detector::state;
-use detector::state::State;
-use scribe::command;
-use scribe::command::Command;
+use reader::command;
+use reader::command::Command;
+use state;
+use state::State;
 
 // What comes after a command.
 enum Next {

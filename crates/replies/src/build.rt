@@ -1,12 +1,12 @@
 // States by hand.
 use context::Context;
-use detector::front::Front;
-use detector::state;
-use detector::state::State;
 use kinds::machine::Machine;
 use places::place::Place;
 use places::place::Score;
 use places::slate;
+use state;
+use state::State;
+use state::front::Front;
 
 // What one byte adds to a score at most.
 pub(crate) const PER_BYTE: i64 = 10_737_418_240;
@@ -73,6 +73,10 @@ pub(crate) fn pick_byte(outside: bool, out: u8, inside: u8) -> u8 {
 }
 
 pub(crate) fn pick_signed(outside: bool, out: i64, inside: i64) -> i64 {
+    if outside { out } else { inside }
+}
+
+pub(crate) fn pick_machine(outside: bool, out: Machine, inside: Machine) -> Machine {
     if outside { out } else { inside }
 }
 

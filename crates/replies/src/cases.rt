@@ -3,6 +3,7 @@ use crate::build;
 use crate::build::PER_BYTE;
 use crate::build::pick;
 use crate::build::pick_byte;
+use crate::build::pick_machine;
 use crate::build::pick_score;
 use crate::build::pick_signed;
 use crate::ended;
@@ -10,11 +11,11 @@ use crate::fields;
 use crate::sheet;
 use crate::stale;
 use context::Context;
-use detector::front::Front;
-use detector::state;
-use detector::state::State;
+use lengths::tests::either;
 use places::order;
 use places::place::Score;
+use state::State;
+use state::front::Front;
 
 // What is wrong: the families below, of a place's kind.
 pub(crate) struct Family {
@@ -154,6 +155,27 @@ pub(crate) fn past(i: usize, out: bool) -> State {
     )
 }
 
+// A machine that is fresh, or differs from the fresh one in a field.
+fn changed(k: usize, i: usize, out: bool) -> State {
+    let machine = pick_machine(out, build::fresh(k), stale::machine(k, i));
+    build::with_place(build::ten(), k, machine, Score::Live(0))
+}
+
+// Two fronts that differ in a field.
+fn changed_front(i: usize, out: bool) -> State {
+    build::of_front(
+        match i {
+            0 => build::front(10, 1, out, false),
+            1 => build::front(10, 1, false, out),
+            2 => build::front(10, pick(out, 2, 1), false, false),
+            3 => build::front(pick(out, 11, 10), 1, false, false),
+            4 => saved(pick_byte(out, 0x61, 0x62), 0x20, 2, 10, false),
+            5 => saved(0x20, pick_byte(out, 0x61, 0x62), 2, 10, false),
+            _ => saved(0x61, 0, if out { 1 } else { 0 }, 10, false),
+        },
+    )
+}
+
 // How many states there are of a family.
 pub(crate) fn most(f: Family) -> usize {
     let number = f.number;
@@ -165,8 +187,14 @@ pub(crate) fn most(f: Family) -> usize {
         4 => 7,
         5 => ended::most(f.kind),
         6 => 6,
-        _ => 20,
+        7 => 20,
+        8 => stale::most(f.kind),
+        _ => 7,
     }
+}
+
+fn is_of_a_kind(number: usize) -> bool {
+    either(number < 6, number == 8)
 }
 
 pub(crate) fn name(f: Family) {
@@ -179,9 +207,11 @@ pub(crate) fn name(f: Family) {
         4 => sheet::say(b"score"),
         5 => sheet::say(b"closed"),
         6 => sheet::say(b"counts"),
-        _ => sheet::say(b"context"),
+        7 => sheet::say(b"context"),
+        8 => sheet::say(b"not fresh"),
+        _ => sheet::say(b"front"),
     }
-    if number < 6 {
+    if is_of_a_kind(number) {
         sheet::say(b", ");
         sheet::name(f.kind);
     }
@@ -197,6 +227,8 @@ pub(crate) fn state(f: Family, i: usize, out: bool) -> State {
         4 => score(f.kind, i, out),
         5 => closed(f.kind, i, out),
         6 => counts(i, out),
-        _ => context(i, out),
+        7 => context(i, out),
+        8 => changed(f.kind, i, out),
+        _ => changed_front(i, out),
     }
 }

@@ -4,10 +4,11 @@ use crate::cases;
 use crate::cases::Family;
 use crate::lent;
 use crate::lent::Odd;
+use crate::same;
 use crate::sheet;
 use crate::tally::Tally;
 use detector::feed::Fed;
-use detector::state::State;
+use state::State;
 
 // The bytes of a chunk, a non-ASCII one among them, so that the flag is set where they are fed.
 pub(crate) fn bytes() -> [u8; 4] {
@@ -101,6 +102,52 @@ pub(crate) fn out_of_order(
     print_family(counts, classes, marks, pairs, index, extras, weights);
     let context = Family { number: 7, kind: 0 };
     print_family(context, classes, marks, pairs, index, extras, weights);
+}
+
+// How many states of a family differ from their neighbours by the comparison that the checks rest on.
+fn apart(f: Family) -> u64 {
+    let most = cases::most(f);
+    let mut told: u64 = 0;
+    let mut i: usize = 0;
+    while i < most {
+        if !same::same_state(cases::state(f, i, true), cases::state(f, i, false)) {
+            told = told % 1000 + 1;
+        }
+        i += 1;
+    }
+    told
+}
+
+fn print_apart(f: Family) {
+    sheet::say(b"told apart, ");
+    cases::name(f);
+    sheet::say(b": ");
+    sheet::number(apart(f));
+    sheet::say(b" of ");
+    sheet::number(cases::most(f) as u64);
+    sheet::say(b"\n");
+}
+
+// A field, the score, a field that is not as in the fresh machine.
+fn told(i: usize) -> usize {
+    match i {
+        0 => 1,
+        1 => 4,
+        _ => 8,
+    }
+}
+
+// Every field of every machine, every score, and every field of the front.
+pub(crate) fn told_apart() {
+    let mut i: usize = 0;
+    while i < 24 {
+        print_apart(Family {
+            number: told(i / 8),
+            kind: i % 8,
+        });
+        i += 1;
+    }
+    print_apart(Family { number: 9, kind: 0 });
 }
 
 // A chunk that is a trigger at its first byte.

@@ -3,14 +3,14 @@
 ghost use Prim.Native.Nat.{_<_, _≤_};
 use detector::feed;
 use detector::feed::Fed;
-use detector::state::State;
-use kinds::tables::BIG5;
-use kinds::tables::CLASSES;
-use kinds::tables::EUC_KR;
-use kinds::tables::EXTRAS;
-use kinds::tables::JIS;
-use kinds::tables::MARKS;
-use kinds::tables::PAIRS;
+use lengths::BIG5;
+use lengths::CLASSES;
+use lengths::EUC_KR;
+use lengths::EXTRAS;
+use lengths::JIS;
+use lengths::MARKS;
+use lengths::PAIRS;
+use state::State;
 
 // Which of the seventeen lent slices has not its length, if any.
 pub(crate) enum Odd {

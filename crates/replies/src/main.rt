@@ -14,8 +14,8 @@ mod stale;
 mod starts;
 mod tally;
 
-use detector::state;
 use lent::Odd;
+use state;
 
 // Document 01's printed case.
 fn printed(
@@ -54,6 +54,7 @@ fn checks(
     printed(classes, marks, pairs, index, extras, weights);
     groups::out_of_order(classes, marks, pairs, index, extras, weights);
     groups::past(classes, marks, pairs, index, extras, weights);
+    groups::told_apart();
     refusals::all(classes, marks, pairs, index, extras, weights);
     sheet::say(b"wrong at once:");
     refusals::first(classes, marks, pairs, index, extras, weights);

@@ -4,16 +4,16 @@ use crate::lent;
 use crate::lent::Odd;
 use crate::sheet;
 use detector::feed;
-use detector::state;
-use detector::state::State;
-use kinds::tables::BIG5;
-use kinds::tables::CLASSES;
-use kinds::tables::EUC_KR;
-use kinds::tables::EXTRAS;
-use kinds::tables::JIS;
-use kinds::tables::MARKS;
-use kinds::tables::PAIRS;
+use lengths::BIG5;
+use lengths::CLASSES;
+use lengths::EUC_KR;
+use lengths::EXTRAS;
+use lengths::JIS;
+use lengths::MARKS;
+use lengths::PAIRS;
 use libc::STDIN_FILENO;
+use state;
+use state::State;
 
 fn chunk(
     state: State,

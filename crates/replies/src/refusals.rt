@@ -7,9 +7,9 @@ use crate::same;
 use crate::sheet;
 use crate::tally::Tally;
 use detector::feed::Fed;
-use detector::state::State;
 use places::order;
 use places::place::Score;
+use state::State;
 
 // After so many bytes: nothing met yet, an escape, or a non-ASCII byte.
 fn after(met: usize, bytes: u64, closed: bool) -> State {

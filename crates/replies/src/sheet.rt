@@ -1,9 +1,9 @@
 // Names, numbers and the printed sheet of document 01.
-use detector::leader;
-use detector::leader::Leader;
-use detector::state::State;
 use libc::STDOUT_FILENO;
 use places::place::Score;
+use state::State;
+use state::leader;
+use state::leader::Leader;
 
 pub(crate) fn say(words: &[u8]) {
     io::write_all(STDOUT_FILENO, words);

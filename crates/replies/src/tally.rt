@@ -2,7 +2,7 @@
 use crate::same;
 use crate::sheet;
 use detector::feed::Fed;
-use detector::state::State;
+use state::State;
 
 // Of each: the value that all checks gave, or 9 where two differ.
 pub(crate) struct Tally {

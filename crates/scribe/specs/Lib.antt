@@ -1,9 +1,4 @@
-pub mod Command
-pub mod CommandLaws
-pub mod Fill
-pub mod FillLaws
 pub mod Page
 pub mod PageLaws
 pub mod Text
 pub mod TextLaws
-pub mod Ways

@@ -1,5 +1,2 @@
-// The replay format's alphabet: texts and numbers written into a buffer, numbers and commands read out of one.
-pub mod command;
-mod number;
+// The replay format's alphabet: texts and numbers, written into a buffer.
 pub mod page;
-pub mod tables;

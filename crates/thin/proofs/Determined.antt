@@ -6,7 +6,7 @@ use denote.Triple.Clauses.{Clauses, AtExit}
 use denote.Triple.Entry.{Args, Res}
 use borrow.Fn.World.{World}
 use Rattle.laws.specs.Determined.{AsksNothing, DeterminedAt, same}
-use Rattle.detector.specs.declared.front.Front.{Front}
+use Rattle.state.specs.declared.front.Front.{Front}
 use Rattle.thin.specs.Thin.{thinOf, frontAfter}
 use Rattle.thin.proofs.Lent.{lent, none}
 use Rattle.thin.proofs.feed as feed

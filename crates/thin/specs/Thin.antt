@@ -2,11 +2,11 @@
 use mathlib.Core.Bool.{Bool}
 use mathlib.Core.List.{List}
 use Prim.Native.Nat.{ℕ}
-use Rattle.kinds.specs.Tables.{Tables}
+use Rattle.lengths.specs.Tables.{Tables}
 use Rattle.places.specs.declared.place.Place.{Place}
 use Rattle.detector.specs.Feed.{feedOf}
 use Rattle.detector.specs.declared.feed.Fed.{Fed}
-use Rattle.detector.specs.declared.front.Front.{Front}
+use Rattle.state.specs.declared.front.Front.{Front}
 use Rattle.thin.specs.declared.Stepped.{Stepped}
 use Rattle.thin.specs.declared.Thin.{Thin}
 

@@ -3,14 +3,14 @@ use mathlib.Core.Path.{_≡_, sym, ap}
 use mathlib.Core.Bool.{Bool}
 use mathlib.Core.List.{List}
 use Prim.Native.Nat.{ℕ}
-use Rattle.kinds.specs.Tables.{Tables}
+use Rattle.lengths.specs.Tables.{Tables}
 use Rattle.places.specs.declared.place.Place.{Place}
 use Rattle.detector.specs.Feed.{refusalOf}
 use Rattle.detector.specs.FeedLaws.{feed-refused}
 use Rattle.detector.specs.declared.feed.Fed.{Fed}
-use Rattle.detector.specs.declared.feed.Reply.{Reply}
+use Rattle.state.specs.declared.reply.Reply.{Reply}
 use Rattle.detector.specs.declared.feed.Verdict.the-variants.{Refuse}
-use Rattle.detector.specs.declared.front.Front.{Front}
+use Rattle.state.specs.declared.front.Front.{Front}
 use Rattle.thin.specs.Thin.{thinAs, thinOf, frontAfter}
 
 module _ (t : Tables) (f : Front) (ps : List Place) (xs : List ℕ) (last : Bool) (r : Reply) (e : Refuse r ≡ refusalOf t (record { front = f; places = ps }) xs) where

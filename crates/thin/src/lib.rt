@@ -1,13 +1,13 @@
 // The thin form of a feed, for a loop that keeps the front in one place: the front is lent by `&mut`, the places go in and
 // come back by value.
 ghost use mathlib.Core.Path.{_≡_};
-ghost use Rattle.kinds.specs.Tables.{single, singles, tables};
+ghost use Rattle.lengths.specs.Tables.{single, singles, tables};
 ghost use Rattle.thin.specs.Thin.{steppedOf, thinOf, frontAfter};
 use detector::feed;
-use detector::feed::Reply;
-use detector::front::Front;
-use detector::state::State;
 use places::place::Slate;
+use state::State;
+use state::front::Front;
+use state::reply::Reply;
 
 pub struct Thin {
     pub places: Slate,

@@ -36,9 +36,9 @@ use denote.Triple.Spec.{Meets, tripleOf}
 use denote.Triple.Statement.{Contract, Triple}
 use denote.Triple.Table.{entered, cited}
 use denote.Triple.Walked.{says, Stays, stay-ref, walkOf, AllGo, goes-ref, Walks, ends-at, walked, walk-meets}
-use Rattle.detector.specs.declared.front.Front.{Front}
-use Rattle.detector.proofs.front.Front as F
-use Rattle.detector.proofs.front.Front.Laws as F′
+use Rattle.state.specs.declared.front.Front.{Front}
+use Rattle.state.proofs.front.Front as F
+use Rattle.state.proofs.front.Front.Laws as F′
 use Rattle.thin.specs.Thin.{steppedOf}
 use Rattle.thin.specs.declared.Stepped.{Stepped}
 use Rattle.thin.specs.declared.Thin.{Thin}

@@ -5,7 +5,7 @@ use Prim.Native.Nat.{ℕ, _-_, _≤_}
 use native.Mathlib.Omega.{arith}
 use lib.ListN.{length, take, drop, length-take, length-drop}
 use Rattle.laws.specs.Lists.{rest-is}
-use Rattle.kinds.specs.Tables.{Tables, single, singles, tables}
+use Rattle.lengths.specs.Tables.{Tables, single, singles, tables}
 use Rattle.detector.specs.FeedLaws.{way-nothing, way-part, way-after}
 use Rattle.detector.specs.Front.{triggerOf, uncounted}
 use Rattle.detector.specs.Due.{DueBy, Roomy}
@@ -23,27 +23,27 @@ module _ (c : tie.After-after) where
   first = c .before .before .before .before .before .before .before .before .before .before .before .before .before .before .before .before
 
   after-is : c .after .result ≡ uncounted (first .args .state .front) (first .args .chunk .now) (first .args .last) (triggerOf (first .args .state .front) (first .args .chunk .now))
-  after-is = rw (c .before .trigger .ensures) at (c .after .ensures)
+  after-is = rw (c .before .trigger-in .ensures) at (c .after .ensures)
 
   roomy : (part : List ℕ) → length part ≤ length (first .args .chunk .now) → Roomy (c .after .result) (length part)
   roomy part h =
       let f = first .pre in
       rw after-is (record { accepted = f .short; seen = omega (arith, f .in-order .front .counted, f .in-order .front .most); short = omega (arith, f .short) })
 
-due-is : (c : tie.After-due) → DueBy (first (c .before) .args .state .front .context) (triggerOf (first (c .before) .args .state .front) (first (c .before) .args .chunk .now)) (c .due .result)
-due-is c = rw (c .before .before .trigger .ensures) at (c .due .ensures .0)
+due-is : (c : tie.After-due-by) → DueBy (first (c .before) .args .state .front .context) (triggerOf (first (c .before) .args .state .front) (first (c .before) .args .chunk .now)) (c .due-by .result)
+due-is c = rw (c .before .before .trigger-in .ensures) at (c .due-by .ensures .0)
 
 from-within : (c : tie.After-known-told) → c .before .from .given .0 .0 ≤ length (c .before .before .before .before .before .before .before .before .before .before .before .before .before .before .before .before .before .before .before .before .args .chunk .now)
-from-within c = let s = c .before .before .before .before .before .before .before .before .before .before .before .before .before .before .before .before .before .before .before .before in part-within (s .args .state .front) (s .args .chunk .now) (c .before .before .before .before .before .trigger .result) (c .before .before .before .before .before .trigger .ensures) (c .before .before .before .due .result) (c .before .before .before .due .ensures .1) (c .before .from .given .0 .0) (c .before .from .given .1)
+from-within c = let s = c .before .before .before .before .before .before .before .before .before .before .before .before .before .before .before .before .before .before .before .before in part-within (s .args .state .front) (s .args .chunk .now) (c .before .before .before .before .before .trigger-in .result) (c .before .before .before .before .before .trigger-in .ensures) (c .before .before .before .due-by .result) (c .before .before .before .due-by .ensures .1) (c .before .from .given .0 .0) (c .before .from .given .1)
 
-trigger-requires : tie.Need-trigger-requires
-trigger-requires c κs = search needs
+trigger-in-requires : tie.Need-trigger-in-requires
+trigger-in-requires c κs = search needs
 
 after-requires : tie.Need-after-requires
 after-requires c κs = let f = c .before .before .before .before .before .before .before .before .before .before .before .before .before .before .before .pre in record { accepted = f .in-order .front .most; seen = omega (arith, f .in-order .front .counted, f .in-order .front .most); short = omega (arith, f .short) }
 
-due-requires : tie.Need-due-requires
-due-requires c κs = search needs
+due-by-requires : tie.Need-due-by-requires
+due-by-requires c κs = search needs
 
 enum-told : tie.Need-enum-told
 enum-told c = search needs
@@ -73,10 +73,10 @@ bytes-requires : tie.Need-bytes-requires
 bytes-requires c κs = search needs
 
 array-share-prefix-saved : tie.Need-array-share-prefix-saved
-array-share-prefix-saved c = let s = c .before .before .before .before .before .before .before .before .before .before .before .before .before .before .before .before .before .before .before .before .before .before in rw (c .bytes .ensures) (after-within (s .args .state .front) (s .args .chunk .now) (c .before .before .before .before .before .before .before .trigger .result) (c .before .before .before .before .before .before .before .trigger .ensures) (c .before .before .before .before .before .due .result) (c .before .before .before .before .before .due .ensures .1) (c .before .before .before .count .given .0 .0) (c .before .before .before .count .given .1) .0)
+array-share-prefix-saved c = let s = c .before .before .before .before .before .before .before .before .before .before .before .before .before .before .before .before .before .before .before .before .before .before in rw (c .bytes .ensures) (after-within (s .args .state .front) (s .args .chunk .now) (c .before .before .before .before .before .before .before .trigger-in .result) (c .before .before .before .before .before .before .before .trigger-in .ensures) (c .before .before .before .before .before .due-by .result) (c .before .before .before .before .before .due-by .ensures .1) (c .before .before .before .count .given .0 .0) (c .before .before .before .count .given .1) .0)
 
 slice-aggregate-feed : tie.Need-slice-aggregate-feed
-slice-aggregate-feed c = let s = c .before .before .before .before .before .before .before .before .before .before .before .before .before .before .before .before .before .before .before .before .before .before .before in let h = after-within (s .args .state .front) (s .args .chunk .now) (c .before .before .before .before .before .before .before .before .trigger .result) (c .before .before .before .before .before .before .before .before .trigger .ensures) (c .before .before .before .before .before .before .due .result) (c .before .before .before .before .before .before .due .ensures .1) (c .before .before .before .before .count .given .0 .0) (c .before .before .before .before .count .given .1) .0 in let e : c .before .before .before .before .count .given .0 .0 ≡ length (take (c .before .before .before .before .count .given .0 .0) (c .before .bytes .result)) = rw (c .before .bytes .ensures, length-take) (omega (arith, h)) in e
+slice-aggregate-feed c = let s = c .before .before .before .before .before .before .before .before .before .before .before .before .before .before .before .before .before .before .before .before .before .before .before in let h = after-within (s .args .state .front) (s .args .chunk .now) (c .before .before .before .before .before .before .before .before .trigger-in .result) (c .before .before .before .before .before .before .before .before .trigger-in .ensures) (c .before .before .before .before .before .before .due-by .result) (c .before .before .before .before .before .before .due-by .ensures .1) (c .before .before .before .before .count .given .0 .0) (c .before .before .before .before .count .given .1) .0 in let e : c .before .before .before .before .count .given .0 .0 ≡ length (take (c .before .before .before .before .count .given .0 .0) (c .before .bytes .result)) = rw (c .before .bytes .ensures, length-take) (omega (arith, h)) in e
 
 feed-requires-2 : tie.Need-feed-requires-2
 feed-requires-2 c κs = search needs
@@ -88,21 +88,21 @@ counted-requires-2 : tie.Need-counted-requires-2
 counted-requires-2 c κs = roomy (c .before .before .before .before .before .before .before .before .before .before .before) (c .before .before .before .before .before .before .before .before .before .before .before .before .before .before .before .before .before .before .before .before .before .before .before .before .before .before .before .args .chunk .now) (omega arith)
 
 returns : tie.Need-returns
-returns c = let s = c .before .before .before .before .before .before .before .before .before .before .before .before .before .before .before .before .before .before .before in way-nothing (lent s) (s .args .state) (s .args .chunk .now) (s .args .last) (s .pre) (c .before .before .due .result) (due-is (c .before .before)) (c .enum-told .given .1) (c .before .before .before .after .result) (after-is (c .before .before .before))
+returns c = let s = c .before .before .before .before .before .before .before .before .before .before .before .before .before .before .before .before .before .before .before in way-nothing (lent s) (s .args .state) (s .args .chunk .now) (s .args .last) (s .pre) (c .before .before .due-by .result) (due-is (c .before .before)) (c .enum-told .given .1) (c .before .before .before .after .result) (after-is (c .before .before .before))
 
 returns-2 : tie.Need-returns-2
-returns-2 c = let s = c .before .before .before .before .before .before .before .before .before .before .before .before .before .before .before .before .before .before .before .before .before .before .before .before in let n = c .before .before .before .before .before .from .given .0 .0 in way-part (lent s) (s .args .state) (s .args .chunk .now) (s .args .last) (s .pre) (c .before .before .before .before .before .before .before .due .result) (due-is (c .before .before .before .before .before .before .before)) n (c .before .before .before .before .before .from .given .1) (take (length (s .args .chunk .now) - n) (drop n (s .args .chunk .now))) (rest-is n (s .args .chunk .now)) (c .before .before .before .before .before .before .before .before .after .result) (c .counted .result) (c .before .before .feed .result) (after-is (c .before .before .before .before .before .before .before .before)) (c .counted .ensures) (c .before .before .feed .ensures .0) (c .before .before .feed .ensures .1)
+returns-2 c = let s = c .before .before .before .before .before .before .before .before .before .before .before .before .before .before .before .before .before .before .before .before .before .before .before .before in let n = c .before .before .before .before .before .from .given .0 .0 in way-part (lent s) (s .args .state) (s .args .chunk .now) (s .args .last) (s .pre) (c .before .before .before .before .before .before .before .due-by .result) (due-is (c .before .before .before .before .before .before .before)) n (c .before .before .before .before .before .from .given .1) (take (length (s .args .chunk .now) - n) (drop n (s .args .chunk .now))) (rest-is n (s .args .chunk .now)) (c .before .before .before .before .before .before .before .before .after .result) (c .counted .result) (c .before .before .feed .result) (after-is (c .before .before .before .before .before .before .before .before)) (c .counted .ensures) (c .before .before .feed .ensures .0) (c .before .before .feed .ensures .1)
 
 returns-3 : tie.Need-returns-3
-returns-3 c = let s = c .before .before .before .before .before .before .before .before .before .before .before .before .before .before .before .before .before .before .before .before .before .before .before .before .before .before .before .before in let k = c .before .before .before .before .before .before .before .before .before .count .given .0 .0 in let q = c .before .before .before .before .before .before .before .before .before .count .given .1 in way-after (lent s) (s .args .state) (s .args .chunk .now) (s .args .last) (s .pre) (c .before .before .before .before .before .before .before .before .before .before .before .due .result) (due-is (c .before .before .before .before .before .before .before .before .before .before .before)) k q (after-within (s .args .state .front) (s .args .chunk .now) (c .before .before .before .before .before .before .before .before .before .before .before .before .before .trigger .result) (c .before .before .before .before .before .before .before .before .before .before .before .before .before .trigger .ensures) (c .before .before .before .before .before .before .before .before .before .before .before .due .result) (c .before .before .before .before .before .before .before .before .before .before .before .due .ensures .1) k q .1) (after-new (s .args .state .front) (s .args .chunk .now) (c .before .before .before .before .before .before .before .before .before .before .before .before .before .trigger .result) (c .before .before .before .before .before .before .before .before .before .before .before .before .before .trigger .ensures) (c .before .before .before .before .before .before .before .before .before .before .before .due .result) (c .before .before .before .before .before .before .before .before .before .before .before .due .ensures .1) k q) (take k (c .before .before .before .before .before .before .bytes .result)) (ap (take k) (c .before .before .before .before .before .before .bytes .ensures)) (c .before .before .before .before .before .before .before .before .before .before .before .before .after .result) (c .counted2 .result) (c .before .before .before .before .feed2 .result) (c .before .before .feed3 .result) (after-is (c .before .before .before .before .before .before .before .before .before .before .before .before)) (c .counted2 .ensures) (c .before .before .before .before .feed2 .ensures .0) (c .before .before .before .before .feed2 .ensures .1) (c .before .before .feed3 .ensures .0) (c .before .before .feed3 .ensures .1)
+returns-3 c = let s = c .before .before .before .before .before .before .before .before .before .before .before .before .before .before .before .before .before .before .before .before .before .before .before .before .before .before .before .before in let k = c .before .before .before .before .before .before .before .before .before .count .given .0 .0 in let q = c .before .before .before .before .before .before .before .before .before .count .given .1 in way-after (lent s) (s .args .state) (s .args .chunk .now) (s .args .last) (s .pre) (c .before .before .before .before .before .before .before .before .before .before .before .due-by .result) (due-is (c .before .before .before .before .before .before .before .before .before .before .before)) k q (after-within (s .args .state .front) (s .args .chunk .now) (c .before .before .before .before .before .before .before .before .before .before .before .before .before .trigger-in .result) (c .before .before .before .before .before .before .before .before .before .before .before .before .before .trigger-in .ensures) (c .before .before .before .before .before .before .before .before .before .before .before .due-by .result) (c .before .before .before .before .before .before .before .before .before .before .before .due-by .ensures .1) k q .1) (after-new (s .args .state .front) (s .args .chunk .now) (c .before .before .before .before .before .before .before .before .before .before .before .before .before .trigger-in .result) (c .before .before .before .before .before .before .before .before .before .before .before .before .before .trigger-in .ensures) (c .before .before .before .before .before .before .before .before .before .before .before .due-by .result) (c .before .before .before .before .before .before .before .before .before .before .before .due-by .ensures .1) k q) (take k (c .before .before .before .before .before .before .bytes .result)) (ap (take k) (c .before .before .before .before .before .before .bytes .ensures)) (c .before .before .before .before .before .before .before .before .before .before .before .before .after .result) (c .counted2 .result) (c .before .before .before .before .feed2 .result) (c .before .before .feed3 .result) (after-is (c .before .before .before .before .before .before .before .before .before .before .before .before)) (c .counted2 .ensures) (c .before .before .before .before .feed2 .ensures .0) (c .before .before .before .before .feed2 .ensures .1) (c .before .before .feed3 .ensures .0) (c .before .before .feed3 .ensures .1)
 
 pub advance-spec : {M : Type 1} → statement M
 advance-spec =
     tie.close
     (tie.spec
-    trigger-requires
+    trigger-in-requires
     after-requires
-    due-requires
+    due-by-requires
     enum-told
     enum-known-from
     sub-part

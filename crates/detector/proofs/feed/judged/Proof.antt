@@ -3,8 +3,8 @@ use native.Mathlib.Omega.{arith}
 use mathlib.Core.Path.{_≡_, sym, _∙_}
 use mathlib.Core.Bool.{Bool, true, false}
 use Rattle.detector.specs.FeedLaws.{off, on, judged-order, judged-closed, judged-length, judged-long, judged-accept}
-use Rattle.detector.specs.Order.{stateB}
-use Rattle.detector.specs.OrderLaws.{order-true}
+use Rattle.state.specs.Order.{stateB}
+use Rattle.state.specs.OrderLaws.{order-true}
 use borrow.Author.Needs.{needs}
 use Rattle.detector.proofs.feed.judged.Statement.{statement}
 use Rattle.detector.proofs.feed.judged.Tie as tie

@@ -2,7 +2,7 @@
 use mathlib.Core.Path.{_≡_, sym, _∙_}
 use native.Mathlib.Omega.{arith}
 use lib.ListN.{length-take, length-drop}
-use Rattle.scribe.specs.CommandLaws.{room}
+use Rattle.reader.specs.CommandLaws.{room}
 use borrow.Author.Needs.{needs}
 use Rattle.play.proofs.turns.turn.Statement.{statement}
 use Rattle.play.proofs.turns.turn.Tie as tie

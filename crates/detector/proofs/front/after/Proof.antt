@@ -1,0 +1,19 @@
+-- `after` meets its contract. Assumes nothing.
+use borrow.Author.Needs.{needs}
+use Rattle.detector.proofs.front.after.Statement.{statement}
+use Rattle.detector.proofs.front.after.Tie as tie
+
+saved-requires : tie.Need-saved-requires
+saved-requires c κs = search needs
+
+escaped-requires : tie.Need-escaped-requires
+escaped-requires c κs = search needs
+
+add-t9 : tie.Need-add-t9
+add-t9 c = search needs
+
+returns : tie.Need-returns
+returns c = rw (c .before .escaped .ensures, c .before .before .saved .ensures)
+
+pub after-spec : {M : Type 1} → statement M
+after-spec = tie.close (tie.spec saved-requires escaped-requires add-t9 returns)

@@ -1,0 +1,31 @@
+-- Each public function's contract asks nothing and determines the reply and what is left in the table. Assumes nothing.
+use mathlib.Core.Path.{refl, ap}
+use mathlib.Core.List.{List}
+use Prim.Native.Nat.{ℕ}
+use lib.IntN.{ℤ}
+use Rattle.laws.specs.Determined.{Determined, same}
+use Rattle.reader.proofs.tables.octets.Kinds as octets-kinds
+use Rattle.reader.proofs.tables.octets.Reads as octets-reads
+use Rattle.reader.proofs.tables.halves.Kinds as halves-kinds
+use Rattle.reader.proofs.tables.halves.Reads as halves-reads
+use Rattle.reader.proofs.tables.words.Kinds as words-kinds
+use Rattle.reader.proofs.tables.words.Reads as words-reads
+use Rattle.reader.proofs.tables.signed_words.Kinds as signed-words-kinds
+use Rattle.reader.proofs.tables.signed_words.Reads as signed-words-reads
+use Rattle.reader.proofs.command.read.Kinds as read-kinds
+use Rattle.reader.proofs.command.read.Reads as read-reads
+
+pub octets : Determined 2 octets-kinds.ps octets-kinds.r octets-reads.Asked octets-reads.Learnt
+octets = record { total = λ κs a. tt; one = λ κs a z z′ w w′ p q. (refl, ap (λ (l : List ℕ). (tt, (l, tt))) (same p q)) }
+
+pub halves : Determined 2 halves-kinds.ps halves-kinds.r halves-reads.Asked halves-reads.Learnt
+halves = record { total = λ κs a. tt; one = λ κs a z z′ w w′ p q. (refl, ap (λ (l : List ℤ). (tt, (l, tt))) (same p q)) }
+
+pub words : Determined 2 words-kinds.ps words-kinds.r words-reads.Asked words-reads.Learnt
+words = record { total = λ κs a. tt; one = λ κs a z z′ w w′ p q. (refl, ap (λ (l : List ℕ). (tt, (l, tt))) (same p q)) }
+
+pub signed-words : Determined 2 signed-words-kinds.ps signed-words-kinds.r signed-words-reads.Asked signed-words-reads.Learnt
+signed-words = record { total = λ κs a. tt; one = λ κs a z z′ w w′ p q. (refl, ap (λ (l : List ℤ). (tt, (l, tt))) (same p q)) }
+
+pub read : Determined 1 read-kinds.ps read-kinds.r read-reads.Asked read-reads.Learnt
+read = record { total = λ κs a. tt; one = λ κs a z z′ w w′ p q. (same p q, refl) }

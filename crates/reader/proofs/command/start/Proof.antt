@@ -1,0 +1,20 @@
+-- `start` meets its contract. Assumes nothing.
+use borrow.Author.Tests.{lt-ltb, le-ltb}
+use Rattle.reader.specs.Command.{startOf}
+use borrow.Author.Needs.{needs}
+use Rattle.reader.proofs.command.start.Statement.{statement}
+use Rattle.reader.proofs.command.start.Tie as tie
+
+returns : tie.Need-returns
+unfolding startOf
+returns c = simp (lt-ltb _ _ (c .if1 .taken))
+
+shared-slice-read-t5 : tie.Need-shared-slice-read-t5
+shared-slice-read-t5 c = search needs
+
+returns-2 : tie.Need-returns-2
+unfolding startOf
+returns-2 c = simp (le-ltb _ _ (c .before .if1 .left))
+
+pub start-spec : {M : Type 1} → statement M
+start-spec = tie.close (tie.spec returns shared-slice-read-t5 returns-2)

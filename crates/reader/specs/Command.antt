@@ -1,0 +1,42 @@
+-- The command with which bytes begin. Assumes nothing.
+use mathlib.Core.Bool.{Bool, cond}
+use mathlib.Core.List.{List}
+use Prim.Native.Nat.{ℕ, _+_, _-_, _*_}
+use lib.Dec.{eqb, ltb}
+use lib.ListN.{length, getD}
+use Rattle.reader.specs.Fill.{whole}
+use Rattle.reader.specs.declared.command.Command.{Command}
+use Rattle.reader.specs.declared.command.Command.the-variants.{Start, Feed, Show, Lend, More, Bad}
+
+-- `S`: which places take part
+unfoldable pub startOf : List ℕ → Command
+startOf xs = cond (ltb (length xs) 2) (More 2) (Start (getD xs 1 0))
+
+-- a chunk of n bytes, of which so many are at hand
+unfoldable pub chunkOf : Bool → ℕ → ℕ → Command
+chunkOf last n there = cond (ltb 65536 n) Bad (cond (ltb there n) (More (6 + n)) (Feed last n))
+
+-- `F`: last, 0 or 1; length; the chunk
+unfoldable pub feedOf : List ℕ → Command
+feedOf xs =
+    cond
+    (ltb (length xs) 6)
+    (More 6)
+    (cond
+    (ltb 1 (getD xs 1 0))
+    Bad
+    (chunkOf (eqb (getD xs 1 0) 1) (whole (getD xs 2 0) (getD xs 3 0) (getD xs 4 0) (getD xs 5 0)) (length xs - 6)))
+
+-- by the first byte: `S`, `F`, `Q`, `T`
+unfoldable pub readOf : List ℕ → Command
+readOf xs =
+    cond
+    (ltb (length xs) 1)
+    (More 1)
+    (cond
+    (eqb (getD xs 0 0) 0x53)
+    (startOf xs)
+    (cond
+    (eqb (getD xs 0 0) 0x46)
+    (feedOf xs)
+    (cond (eqb (getD xs 0 0) 0x51) Show (cond (eqb (getD xs 0 0) 0x54) Lend Bad))))

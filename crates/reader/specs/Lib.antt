@@ -1,0 +1,5 @@
+pub mod Command
+pub mod CommandLaws
+pub mod Fill
+pub mod FillLaws
+pub mod Ways

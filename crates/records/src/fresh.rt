@@ -1,0 +1,176 @@
+// Whether a machine is the fresh one of its kind.
+ghost use mathlib.Core.Path.{_≡_};
+ghost use Rattle.records.specs.Fresh.{asciiState, asciiOut, otherKorean, otherCj, spaceCase, freshUtf8B, freshIso2022JpB, emptyB, freshEucKrB, freshBig5B, freshCommonB, freshCaselessB, freshLogicalB, freshVisualB, freshArabicFrenchB, freshB};
+use arabic_french::ArabicFrench;
+use arabic_french::LatinCaseState;
+use big5::Big5;
+use big5::LatinCj;
+use caseless::Caseless;
+use euckr::EucKr;
+use euckr::LatinKorean;
+use iso2022jp::DecoderState;
+use iso2022jp::Iso2022Jp;
+use iso2022jp::OutputState;
+use kinds::machine::Machine;
+use lengths::tests::both;
+use logical::Logical;
+use pairs::Held;
+use utf8::Utf8;
+use visual::Visual;
+
+fn is_fresh_utf8(m: Utf8) -> bool
+    ensures { λ r. ⌜ r ≡ freshUtf8B m ⌝ }
+{
+    both(m.need == 0, both(m.lo == Utf8::LOWER, m.hi == Utf8::UPPER))
+}
+
+fn is_ascii_state(state: DecoderState) -> bool
+    ensures { λ r. ⌜ r ≡ asciiState state ⌝ }
+{
+    match state {
+        DecoderState::Ascii => true,
+        DecoderState::Roman => false,
+        DecoderState::Katakana => false,
+        DecoderState::LeadByte => false,
+        DecoderState::TrailByte => false,
+        DecoderState::EscapeStart => false,
+        DecoderState::Escape => false,
+    }
+}
+
+fn is_ascii_out(out: OutputState) -> bool
+    ensures { λ r. ⌜ r ≡ asciiOut out ⌝ }
+{
+    match out {
+        OutputState::Ascii => true,
+        OutputState::Roman => false,
+        OutputState::Katakana => false,
+        OutputState::LeadByte => false,
+    }
+}
+
+fn is_fresh_iso2022jp(m: Iso2022Jp) -> bool
+    ensures { λ r. ⌜ r ≡ freshIso2022JpB m ⌝ }
+{
+    let state = m.state;
+    let out = m.out;
+    both(
+        is_ascii_state(state),
+        both(is_ascii_out(out), both(m.lead == 0, !m.output)),
+    )
+}
+
+fn is_empty(held: Held) -> bool
+    ensures { λ r. ⌜ r ≡ emptyB held ⌝ }
+{
+    match held {
+        Held::Nothing => true,
+        Held::Score(_) => false,
+    }
+}
+
+fn is_other_korean(prev: LatinKorean) -> bool
+    ensures { λ r. ⌜ r ≡ otherKorean prev ⌝ }
+{
+    match prev {
+        LatinKorean::AsciiLetter => false,
+        LatinKorean::Hangul => false,
+        LatinKorean::Hanja => false,
+        LatinKorean::Other => true,
+    }
+}
+
+fn is_fresh_euckr(m: EucKr) -> bool
+    ensures { λ r. ⌜ r ≡ freshEucKrB m ⌝ }
+{
+    let prev = m.prev;
+    let held = m.held;
+    let counts = both(m.current_word_len == 0, is_empty(held));
+    let bytes = both(m.prev_byte == 0, both(!m.prev_was_euc_range, counts));
+    both(is_other_korean(prev), both(m.lead == 0, bytes))
+}
+
+fn is_other_cj(prev: LatinCj) -> bool
+    ensures { λ r. ⌜ r ≡ otherCj prev ⌝ }
+{
+    match prev {
+        LatinCj::AsciiLetter => false,
+        LatinCj::Cj => false,
+        LatinCj::Other => true,
+    }
+}
+
+fn is_fresh_big5(m: Big5) -> bool
+    ensures { λ r. ⌜ r ≡ freshBig5B m ⌝ }
+{
+    let prev = m.prev;
+    let held = m.held;
+    both(
+        is_other_cj(prev),
+        both(m.lead == 0, both(m.prev_byte == 0, is_empty(held))),
+    )
+}
+
+// What the four single-byte machines share.
+fn is_fresh_common(prev: u8, prev_ascii: bool, word: u64, longest: u64) -> bool
+    ensures { λ r. ⌜ r ≡ freshCommonB prev «prev_ascii» word longest ⌝ }
+{
+    both(prev == 0, both(prev_ascii, both(word == 0, longest == 0)))
+}
+
+fn is_fresh_caseless(m: Caseless) -> bool
+    ensures { λ r. ⌜ r ≡ freshCaselessB m ⌝ }
+{
+    is_fresh_common(m.prev, m.prev_ascii, m.current_word_len, m.longest_word)
+}
+
+fn is_fresh_logical(m: Logical) -> bool
+    ensures { λ r. ⌜ r ≡ freshLogicalB m ⌝ }
+{
+    let common = is_fresh_common(m.prev, m.prev_ascii, m.current_word_len, m.longest_word);
+    both(m.plausible_punctuation == 0, common)
+}
+
+fn is_fresh_visual(m: Visual) -> bool
+    ensures { λ r. ⌜ r ≡ freshVisualB m ⌝ }
+{
+    let common = is_fresh_common(m.prev, m.prev_ascii, m.current_word_len, m.longest_word);
+    both(
+        m.plausible_punctuation == 0,
+        both(!m.prev_punctuation, common),
+    )
+}
+
+fn is_space_case(case_state: LatinCaseState) -> bool
+    ensures { λ r. ⌜ r ≡ spaceCase «case_state» ⌝ }
+{
+    match case_state {
+        LatinCaseState::Space => true,
+        LatinCaseState::Upper => false,
+        LatinCaseState::Lower => false,
+        LatinCaseState::AllCaps => false,
+    }
+}
+
+fn is_fresh_arabic_french(m: ArabicFrench) -> bool
+    ensures { λ r. ⌜ r ≡ freshArabicFrenchB m ⌝ }
+{
+    let case_state = m.case_state;
+    let common = is_fresh_common(m.prev, m.prev_ascii, m.current_word_len, m.longest_word);
+    both(is_space_case(case_state), common)
+}
+
+pub fn is_fresh(machine: Machine) -> bool
+    ensures { λ r. ⌜ r ≡ freshB machine ⌝ }
+{
+    match machine {
+        Machine::Utf8(m) => is_fresh_utf8(m),
+        Machine::Iso2022Jp(m) => is_fresh_iso2022jp(m),
+        Machine::EucKr(m) => is_fresh_euckr(m),
+        Machine::Big5(m) => is_fresh_big5(m),
+        Machine::Caseless(m) => is_fresh_caseless(m),
+        Machine::Logical(m) => is_fresh_logical(m),
+        Machine::Visual(m) => is_fresh_visual(m),
+        Machine::ArabicFrench(m) => is_fresh_arabic_french(m),
+    }
+}

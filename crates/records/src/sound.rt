@@ -1,0 +1,37 @@
+// What a machine can hold after so many bytes.
+ghost use mathlib.Core.Path.{_≡_};
+ghost use Rattle.kinds.specs.Sound.{takesSpace, soundLogicalB, soundB};
+use kinds::machine::Machine;
+use lengths::tests::both;
+use logical::Logical;
+
+// Whether the end of the stream is a space to it, one byte more.
+pub fn takes_space(machine: Machine) -> bool
+    ensures { λ r. ⌜ r ≡ takesSpace machine ⌝ }
+{
+    4 <= machine.kind()
+}
+
+fn is_sound_logical(m: Logical, bytes: u64, reach: u64) -> bool
+    ensures { λ r. ⌜ r ≡ soundLogicalB bytes reach m ⌝ }
+{
+    let longest = both(m.longest_word <= bytes, m.is_sound_for(reach));
+    both(m.plausible_punctuation <= bytes, longest)
+}
+
+// Whether so many bytes can have led to it. `reach` has the closing space besides: it can lengthen a word and, in visual
+// order, count punctuation, and nothing else.
+pub fn is_sound(machine: Machine, bytes: u64, reach: u64) -> bool
+    ensures { λ r. ⌜ r ≡ soundB bytes reach machine ⌝ }
+{
+    match machine {
+        Machine::Utf8(m) => m.is_sound(),
+        Machine::Iso2022Jp(m) => m.is_sound(),
+        Machine::EucKr(m) => m.is_sound_for(bytes),
+        Machine::Big5(m) => m.is_sound_for(bytes),
+        Machine::Caseless(m) => both(m.longest_word <= bytes, m.is_sound_for(reach)),
+        Machine::Logical(m) => is_sound_logical(m, bytes, reach),
+        Machine::Visual(m) => both(m.longest_word <= bytes, m.is_sound_for(reach)),
+        Machine::ArabicFrench(m) => both(m.longest_word <= bytes, m.is_sound_for(reach)),
+    }
+}

@@ -1,0 +1,13 @@
+-- `Front::fresh` meets its contract. Assumes nothing.
+use borrow.Author.Needs.{needs}
+use Rattle.state.proofs.front.Front.fresh.Statement.{statement}
+use Rattle.state.proofs.front.Front.fresh.Tie as tie
+
+fresh-requires : tie.Need-fresh-requires
+fresh-requires c κs = search needs
+
+returns : tie.Need-returns
+returns c = rw (c .fresh .ensures)
+
+pub fresh-spec : {M : Type 1} → statement M
+fresh-spec = tie.close (tie.spec fresh-requires returns)

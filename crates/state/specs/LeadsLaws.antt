@@ -1,0 +1,157 @@
+-- The leader leads: what the walk over the places finds has the greatest score, and stands first among those that have it. Assumes
+-- nothing.
+use mathlib.Core.Path.{_≡_, refl, sym, ap, subst, _∙_}
+use mathlib.Core.Bool.{Bool, true, false, cond}
+use mathlib.Core.List.{List, [], _∷_, _++_, append-nil, append-assoc}
+use Prim.Native.Nat.{ℕ, suc, _+_, _<_, _≤_}
+use native.Mathlib.Nat.{not-suc-le-zero}
+use native.Mathlib.Omega.{arith}
+use lib.Dec.{ltb}
+use lib.IntN.{ℤ, pos, negsuc}
+use lib.ListN.{length, getD, length-append, List·getD-append}
+use lib.Seq.{getD-at}
+use lib.Signed.{ltZ}
+use borrow.Author.Tests.{lt-ltb, le-ltb, ltb-true, ltb-false}
+use Rattle.places.specs.declared.place.Place.{Place}
+use Rattle.places.specs.declared.place.Score.{Score}
+use Rattle.places.specs.declared.place.Score.the-variants as score
+use Rattle.state.specs.State.{triggered}
+use Rattle.state.specs.Leader.{againstBest, betterOf, bestFrom, leaderAs, leaderOf}
+use Rattle.state.specs.Leads.{AtMost, Below, Each, Leads, Scoreless, LeaderFor}
+use Rattle.state.specs.declared.leader.Best.{Best}
+use Rattle.state.specs.declared.leader.Best.the-variants as best
+use Rattle.state.specs.declared.leader.Leader.{Leader}
+use Rattle.state.specs.declared.leader.Leader.the-variants.{Ascii}
+use Rattle.state.specs.declared.State.{State}
+
+abbrev IsBest : List Place → Best → Type 0
+IsBest ps best.None = Scoreless ps
+IsBest ps (best.Score k n) = Leads ps k n
+
+-- ---- the order of scores
+irreflexive : (n : ℤ) → ltZ n n ≡ false
+irreflexive (pos n) = le-ltb n n (omega arith)
+irreflexive (negsuc n) = le-ltb n n (omega arith)
+
+asymmetric : (x n : ℤ) → ltZ x n ≡ true → ltZ n x ≡ false
+asymmetric (pos x) (pos n) e = le-ltb n x (omega (arith, ltb-true x n e))
+asymmetric (pos x) (negsuc n) e = refl-of e
+  where
+    refl-of : false ≡ true → true ≡ false
+    refl-of q = sym q
+asymmetric (negsuc x) (pos n) e = refl
+asymmetric (negsuc x) (negsuc n) e = le-ltb x n (omega (arith, ltb-true n x e))
+
+-- no greater than n, and n less than m
+through : (x n m : ℤ) → ltZ n x ≡ false → ltZ n m ≡ true → ltZ x m ≡ true
+through (pos x) (pos n) (pos m) p q = lt-ltb x m (omega (arith, ltb-false n x p, ltb-true n m q))
+through (pos x) (pos n) (negsuc m) p q = q
+through (pos x) (negsuc n) m p q = absurd-from (sym p)
+  where
+    absurd-from : false ≡ true → ltZ (pos x) m ≡ true
+    absurd-from e = absurd (let z : _≡_ {A = ℕ} 0 1 = cc in omega arith)
+through (negsuc x) n (pos m) p q = refl
+through (negsuc x) (pos n) (negsuc m) p q = absurd (let z : _≡_ {A = ℕ} 0 1 = cc in omega arith)
+through (negsuc x) (negsuc n) (negsuc m) p q = lt-ltb m x (omega (arith, ltb-false x n p, ltb-true m n q))
+
+most-below : (n m : ℤ) (s : Score) → ltZ n m ≡ true → AtMost n s → Below m s
+most-below n m score.None h a = tt
+most-below n m (score.Live x) h a = through x n m a h
+
+below-most : (m : ℤ) (s : Score) → Below m s → AtMost m s
+below-most m score.None b = tt
+below-most m (score.Live x) b = asymmetric x m b
+
+-- ---- one place more
+module _ (ps : List Place) (p : Place) where
+  abbrev more : List Place
+  more = ps ++ (p ∷ [])
+
+  length-more : length more ≡ length ps + 1
+  length-more = length-append ps (p ∷ [])
+
+  old : (j : ℕ) (d : Place) → j < length ps → getD more j d ≡ getD ps j d
+  old j d h = List·getD-append ps (p ∷ []) d j h
+
+  new : (d : Place) → getD more (length ps) d ≡ p
+  new d = getD-at ps p [] d (length ps) refl
+
+  each-old : (P : Score → Type 0) (k : ℕ) → k ≤ length ps → Each P k ps → Each P k more
+  each-old P k l f j d h = subst (λ (x : Place). P (x .score)) (sym (old j d (omega arith))) (f j d h)
+
+  each-more : (P : Score → Type 0) → Each P (length ps) ps → P (p .score) → Each P (length more) more
+  each-more P f g j d h = pick (ltb j (length ps)) refl
+    where
+      pick : (t : Bool) → ltb j (length ps) ≡ t → P (getD (ps ++ (p ∷ [])) j d .score)
+      pick true e = each-old P (length ps) (omega arith) f j d (ltb-true j (length ps) e)
+      pick false e =
+          let q : length ps ≡ j = omega (arith, h, length-more, ltb-false j (length ps) e) in
+          subst (λ (i : ℕ). P (getD (ps ++ (p ∷ [])) i d .score)) q (subst (λ (x : Place). P (x .score)) (sym (new d)) g)
+
+  each-to : (P Q : Score → Type 0) (k : ℕ) → ((s : Score) → P s → Q s) → Each P k ps → Each Q k ps
+  each-to P Q k f g j d h = f (getD ps j d .score) (g j d h)
+
+  -- the new place leads, where it has a score that is greater than what was known
+  leads-new : (n : ℤ) → p .score ≡ score.Live n → Each (Below n) (length ps) ps → Leads more (length ps) n
+  leads-new n e f =
+      record {
+        within = omega (arith, length-more);
+        there = λ (d : Place). ap (λ (x : Place). x .score) (new d) ∙ e;
+        greatest = each-more (AtMost n) (each-to (Below n) (AtMost n) (length ps) (below-most n) f) (subst (AtMost n) (sym e) (irreflexive n));
+        lowest = each-old (Below n) (length ps) (omega arith) f;
+      }
+
+  -- the old one stays, where the new one has none or no greater one
+  leads-old : (k : ℕ) (n : ℤ) → Leads ps k n → AtMost n (p .score) → Leads more k n
+  leads-old k n l a =
+      record {
+        within = omega (arith, length-more, l .within);
+        there = λ (d : Place). ap (λ (x : Place). x .score) (old k d (l .within)) ∙ l .there d;
+        greatest = each-more (AtMost n) (l .greatest) a;
+        lowest = each-old (Below n) k (omega (arith, l .within)) (l .lowest);
+      }
+
+  none-below : (n : ℤ) (s : Score) → s ≡ score.None → Below n s
+  none-below n s e = subst (Below n) (sym e) tt
+
+  against : (b : Best) (n : ℤ) → p .score ≡ score.Live n → IsBest ps b → IsBest more (againstBest b (length ps) n)
+  against best.None n e i = leads-new n e (each-to (λ (s : Score). s ≡ score.None) (Below n) (length ps) (none-below n) i)
+  against (best.Score k m) n e i = pick (ltZ m n) refl
+    where
+      pick : (t : Bool) → ltZ m n ≡ t → IsBest (ps ++ (p ∷ [])) (cond t (best.Score (length ps) n) (best.Score k m))
+      pick true q = leads-new n e (each-to (AtMost m) (Below n) (length ps) (λ (s : Score) (a : AtMost m s). most-below m n s q a) (i .greatest))
+      pick false q = leads-old k m i (subst (AtMost m) (sym e) q)
+
+  kept : (b : Best) → p .score ≡ score.None → IsBest ps b → IsBest more b
+  kept best.None e i = each-more (λ (s : Score). s ≡ score.None) i e
+  kept (best.Score k n) e i = leads-old k n i (subst (AtMost n) (sym e) tt)
+
+  better-is : (b : Best) (s : Score) → p .score ≡ s → IsBest ps b → IsBest more (betterOf b (length ps) s)
+  unfolding betterOf
+  better-is b score.None e i = kept b e i
+  better-is b (score.Live n) e i = against b n e i
+
+-- ---- all places
+best-is : (ps qs : List Place) (b : Best) → IsBest ps b → IsBest (ps ++ qs) (bestFrom b (length ps) qs)
+unfolding bestFrom
+best-is ps [] b i = subst (λ (l : List Place). IsBest l b) (sym (append-nil ps)) i
+best-is ps (q ∷ qs) b i =
+    let e : length (ps ++ (q ∷ [])) ≡ suc (length ps) = omega (arith, length-append ps (q ∷ [])) in
+    let r = best-is (ps ++ (q ∷ [])) qs (betterOf b (length ps) (q .score)) (better-is ps q b (q .score) refl i) in
+    rw (append-assoc ps (q ∷ []) qs, e) at r
+
+best-of-all : (ps : List Place) → IsBest ps (bestFrom best.None 0 ps)
+best-of-all ps = best-is [] ps best.None (λ (j : ℕ) (d : Place) h. absurd (not-suc-le-zero h))
+
+led-as : (s : State) (b : Best) → triggered (s .front) ≡ true → IsBest (s .places) b → LeaderFor s (leaderAs b)
+led-as s best.None e i = (e, i)
+led-as s (best.Score k n) e i = (e, record { most = n; leads = i })
+
+-- The greatest score leads, the lowest place on ties; none where no place has a score; ascii before any trigger.
+pub leader-leads : (s : State) → LeaderFor s (leaderOf s)
+unfolding leaderOf
+leader-leads s = pick (triggered (s .front)) refl
+  where
+    pick : (t : Bool) → triggered (s .front) ≡ t → LeaderFor s (cond t (leaderAs (bestFrom best.None 0 (s .places))) Ascii)
+    pick true e = led-as s (bestFrom best.None 0 (s .places)) e (best-of-all (s .places))
+    pick false e = e

@@ -1,0 +1,8 @@
+pub mod Leader
+pub mod LeaderLaws
+pub mod Leads
+pub mod LeadsLaws
+pub mod Order
+pub mod OrderLaws
+pub mod Reply
+pub mod State

@@ -1,0 +1,75 @@
+// What is known of the bytes so far.
+ghost use mathlib.Core.Path.{_≡_};
+ghost use Rattle.state.specs.State.{fresh, flagOf, triggered};
+ghost use Rattle.state.specs.Order.{plainB, savedB, frontB};
+use context::Context;
+use lengths::tests::both;
+use lengths::tests::either;
+use places::order;
+
+pub struct Front {
+    pub context: Context,
+    pub esc_seen: bool,
+    pub non_ascii_seen: u64,
+    pub closed: bool,
+    pub bytes: u64,
+}
+
+impl Front {
+    pub fn fresh() -> Front
+        ensures { λ r. ⌜ r ≡ fresh ⌝ }
+    {
+        Front {
+            context: Context::fresh(),
+            esc_seen: false,
+            non_ascii_seen: 0,
+            closed: false,
+            bytes: 0,
+        }
+    }
+
+    // Whether any non-ASCII byte has reached the places.
+    pub fn flag(self) -> bool
+        ensures { λ r. ⌜ r ≡ flagOf self ⌝ }
+    {
+        0 < self.non_ascii_seen
+    }
+
+    // Whether a trigger was met.
+    pub fn is_triggered(self) -> bool
+        ensures { λ r. ⌜ r ≡ triggered self ⌝ }
+    {
+        either(self.esc_seen, self.flag())
+    }
+
+    // Whether a state in order can have it.
+    pub fn is_in_order(self) -> bool
+        ensures { λ r. ⌜ r ≡ frontB self ⌝ }
+    {
+        let context = self.context;
+        let saved = both(context.len as u64 <= self.bytes, is_saved(context));
+        both(
+            self.bytes <= order::LIMIT,
+            both(self.non_ascii_seen <= self.bytes, saved),
+        )
+    }
+}
+
+// A byte that the context can save.
+fn is_plain(b: u8) -> bool
+    ensures { λ r. ⌜ r ≡ plainB b ⌝ }
+{
+    !either(b == 0x1B, octets::is_non_ascii(b))
+}
+
+// What stands past a context's length is not looked at.
+fn is_saved(context: Context) -> bool
+    ensures { λ r. ⌜ r ≡ savedB context ⌝ }
+{
+    let len = context.len;
+    let second = either(len < 2, is_plain(context.second));
+    both(
+        len <= Context::MOST,
+        both(either(len == 0, is_plain(context.first)), second),
+    )
+}

@@ -1,0 +1,44 @@
+// The state of a stream: the front and the slate.
+ghost use mathlib.Core.Path.{_≡_};
+ghost use Rattle.state.specs.Order.{stateB};
+ghost use Rattle.state.specs.State.{startOf};
+
+pub mod front;
+pub mod leader;
+pub mod reply;
+
+use front::Front;
+use lengths::tests::both;
+use places::order;
+use places::place::Slate;
+use places::slate;
+
+pub struct State {
+    pub front: Front,
+    pub places: Slate,
+}
+
+// A stream's start; bit k of `bits` says whether place k takes part.
+pub fn start(bits: u8) -> State
+    ensures { λ r. ⌜ r ≡ startOf bits ⌝ }
+{
+    State {
+        front: Front::fresh(),
+        places: slate::start(bits),
+    }
+}
+
+impl State {
+    // Whether a start and feeds can have led to a state like this.
+    pub fn is_in_order(self) -> bool
+        ensures { λ r. ⌜ r ≡ stateB self ⌝ }
+    {
+        let front = self.front;
+        let places = self.places;
+        let fed = front.is_triggered();
+        both(
+            front.is_in_order(),
+            order::are_in_order(places, front.bytes, front.closed, fed),
+        )
+    }
+}
