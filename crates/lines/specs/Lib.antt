@@ -1,4 +1,5 @@
 pub mod Fields
+pub mod FitsLaws
 pub mod Names
 pub mod Show
 pub mod ShowLaws
