@@ -1,7 +1,7 @@
 -- What a feed replies, what it gives and what it leaves. Assumes nothing.
 use mathlib.Core.Bool.{Bool, false, cond}
 use mathlib.Core.List.{List}
-use Prim.Native.Nat.{ℕ, _-_}
+use Prim.Native.Nat.{ℕ, _+_}
 use lib.Dec.{ltb}
 use lib.ListN.{length}
 use Rattle.laws.specs.Limit.{limit}
@@ -24,7 +24,7 @@ verdictOf s sized n =
     cond (stateB s)
     (cond (s .front .closed) (Refuse (Closed (flagOf (s .front))))
     (cond sized
-    (cond (ltb (limit - s .front .bytes) n) (Refuse (TooLong (flagOf (s .front)))) Accept)
+    (cond (ltb limit (s .front .bytes + n)) (Refuse (TooLong (flagOf (s .front)))) Accept)
     (Refuse (WrongLength (flagOf (s .front))))))
     (Refuse NotInOrder)
 

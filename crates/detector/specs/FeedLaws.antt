@@ -1,6 +1,6 @@
 -- Each way through a feed: the reply table, and what is left. Assumes nothing.
 use mathlib.Core.Path.{_≡_, refl, sym, ap, subst, _∙_}
-use mathlib.Core.Bool.{Bool, true, false, cond, not}
+use mathlib.Core.Bool.{Bool, true, false, cond}
 use mathlib.Core.List.{List, [], _∷_, _++_}
 use Prim.Native.Nat.{ℕ, _+_, _-_, _<_, _≤_}
 use native.Mathlib.Nat.{add-zero, zero-add}
@@ -41,14 +41,6 @@ use Rattle.detector.specs.declared.front.Due.the-variants.{Nothing, Part
 use Rattle.state.specs.declared.front.Front.{Front}
 use Rattle.state.specs.declared.State.{State}
 
-pub off : (t : Bool) → not t ≡ true → t ≡ false
-off true e = sym e
-off false e = refl
-
-pub on : (t : Bool) → not t ≡ false → t ≡ true
-on true e = refl
-on false e = sym e
-
 -- ---- the tests, one after the other
 module _ (s : State) (sized : Bool) (n : ℕ) where
   pub judged-order : stateB s ≡ false → Refuse NotInOrder ≡ verdictOf s sized n
@@ -66,13 +58,13 @@ module _ (s : State) (sized : Bool) (n : ℕ) where
       judged-length e = rw (a, b, e)
 
       module _ (c : sized ≡ true) where
-        pub judged-long : limit - s .front .bytes < n → Refuse (TooLong (flagOf (s .front))) ≡ verdictOf s sized n
+        pub judged-long : limit < s .front .bytes + n → Refuse (TooLong (flagOf (s .front))) ≡ verdictOf s sized n
         unfolding verdictOf
-        judged-long h = rw (a, b, c, lt-ltb (limit - s .front .bytes) n h)
+        judged-long h = rw (a, b, c, lt-ltb limit (s .front .bytes + n) h)
 
-        pub judged-accept : n ≤ limit - s .front .bytes → Accept ≡ verdictOf s sized n
+        pub judged-accept : s .front .bytes + n ≤ limit → Accept ≡ verdictOf s sized n
         unfolding verdictOf
-        judged-accept h = rw (a, b, c, le-ltb (limit - s .front .bytes) n h)
+        judged-accept h = rw (a, b, c, le-ltb limit (s .front .bytes + n) h)
 
 -- ---- refused: in order, unless that was the reason
 no : {A : Type 0} {r : Reply} → Accept ≡ Refuse r → A
@@ -94,22 +86,22 @@ module _ (s : State) (n : ℕ) where
 
   pub refused-stays : (sized : Bool) (r : Reply) → Refuse r ≡ verdictOf s sized n → StaysIn r s
   unfolding verdictOf
-  refused-stays sized r q = refused-at (stateB s) (s .front .closed) sized (ltb (limit - s .front .bytes) n) r refl (sym q)
+  refused-stays sized r q = refused-at (stateB s) (s .front .closed) sized (ltb limit (s .front .bytes + n)) r refl (sym q)
 
 -- ---- accepted: what the tests have shown
 module _ (t : Tables) (s : State) (xs : List ℕ) where
-  accept-at : (a b c d : Bool) → stateB s ≡ a → s .front .closed ≡ b → sizedB t ≡ c → ltb (limit - s .front .bytes) (length xs) ≡ d → cond a (cond b (Refuse (Closed (flagOf (s .front)))) (cond c (cond d (Refuse (TooLong (flagOf (s .front)))) Accept) (Refuse (WrongLength (flagOf (s .front)))))) (Refuse NotInOrder) ≡ Accept → Fit t s xs
+  accept-at : (a b c d : Bool) → stateB s ≡ a → s .front .closed ≡ b → sizedB t ≡ c → ltb limit (s .front .bytes + length xs) ≡ d → cond a (cond b (Refuse (Closed (flagOf (s .front)))) (cond c (cond d (Refuse (TooLong (flagOf (s .front)))) Accept) (Refuse (WrongLength (flagOf (s .front)))))) (Refuse NotInOrder) ≡ Accept → Fit t s xs
   accept-at false b c d p q r u e = no-accept e
   accept-at true true c d p q r u e = no-accept e
   accept-at true false false d p q r u e = no-accept e
   accept-at true false true true p q r u e = no-accept e
   accept-at true false true false p q r u e =
       let o = order-true s p in
-      record { sized = sized-true t r; in-order = o; going = q; short = omega (arith, ltb-false (limit - s .front .bytes) (length xs) u, o .front .most) }
+      record { sized = sized-true t r; in-order = o; going = q; short = ltb-false limit (s .front .bytes + length xs) u }
 
   pub accept-fit : Accept ≡ refusalOf t s xs → Fit t s xs
   unfolding verdictOf
-  accept-fit e = accept-at (stateB s) (s .front .closed) (sizedB t) (ltb (limit - s .front .bytes) (length xs)) refl refl refl refl (sym e)
+  accept-fit e = accept-at (stateB s) (s .front .closed) (sizedB t) (ltb limit (s .front .bytes + length xs)) refl refl refl refl (sym e)
 
 -- ---- the whole
 module _ (t : Tables) (s : State) (xs : List ℕ) (last : Bool) where

@@ -64,7 +64,7 @@ use Rattle.edges.specs.Edges.{after, FedAs, Leaves, withoutLong, Adds, E
 -- ---- a chunk that passes the tests
 module _ (t : Tables) (s : State) (xs : List ℕ) (fit : Fit t s xs) where
   fed-is : (last : Bool) → feedOf t s xs last ≡ accepted (advanceOf t s xs last)
-  fed-is last = sym (feed-accepted t s xs last (judged-accept s (sizedB t) (length xs) (true-order s (fit .in-order)) (fit .going) (true-sized t (fit .sized)) (omega (arith, fit .short))))
+  fed-is last = sym (feed-accepted t s xs last (judged-accept s (sizedB t) (length xs) (true-order s (fit .in-order)) (fit .going) (true-sized t (fit .sized)) (fit .short)))
 
   fed-as : (before part : List ℕ) → reachesOf (s .front) xs ≡ some before part → FedAs t s xs before part
   unfolding advanceOf placesBy

@@ -1,6 +1,6 @@
 -- What tests say, taken together and apart. Assumes nothing.
-use mathlib.Core.Path.{_≡_, refl}
-use mathlib.Core.Bool.{Bool, true, false, cond, _&&_, _||_}
+use mathlib.Core.Path.{_≡_, refl, sym}
+use mathlib.Core.Bool.{Bool, true, false, cond, not, _&&_, _||_}
 
 pub both : (a b : Bool) → (a && b) ≡ true → (a ≡ true) × (b ≡ true)
 both true true e = (refl, refl)
@@ -10,6 +10,14 @@ both false b e = (e, cc)
 pub neither : (a b : Bool) → (a || b) ≡ false → (a ≡ false) × (b ≡ false)
 neither true b e = (e, cc)
 neither false b e = (refl, e)
+
+pub off : (t : Bool) → not t ≡ true → t ≡ false
+off true e = sym e
+off false e = refl
+
+pub on : (t : Bool) → not t ≡ false → t ≡ true
+on true e = refl
+on false e = sym e
 
 -- what holds of each of two where it is picked, holds of the one that a test picks
 pub either : {A : Type 0} (P : A → Type 0) (t : Bool) {x y : A} → (t ≡ true → P x) → (t ≡ false → P y) → P (cond t x y)

@@ -1,7 +1,6 @@
 -- The words of the replay format. Assumes nothing.
-use mathlib.Core.Path.{_≡_, refl}
 use mathlib.Core.List.{List, [], _∷_}
-use Prim.Native.Nat.{ℕ, zero, suc}
+use Prim.Native.Nat.{ℕ}
 use lib.ListN.{getD}
 use Rattle.scribe.specs.Text.{ascii}
 use Rattle.big5.specs.declared.LatinCj as cj
@@ -17,17 +16,6 @@ places =
 
 unfoldable pub placeName : ℕ → List ℕ
 placeName k = getD places k (ascii "arabic-french")
-
-pub last-name : (k : ℕ) → (k ≡ 0 → ⊥) → (k ≡ 1 → ⊥) → (k ≡ 2 → ⊥) → (k ≡ 3 → ⊥) → (k ≡ 4 → ⊥) → (k ≡ 5 → ⊥) → (k ≡ 6 → ⊥) → ascii "arabic-french" ≡ placeName k
-unfolding placeName
-last-name zero a b c d e f g = absurd (a refl)
-last-name (suc zero) a b c d e f g = absurd (b refl)
-last-name (suc (suc zero)) a b c d e f g = absurd (c refl)
-last-name (suc (suc (suc zero))) a b c d e f g = absurd (d refl)
-last-name (suc (suc (suc (suc zero)))) a b c d e f g = absurd (e refl)
-last-name (suc (suc (suc (suc (suc zero))))) a b c d e f g = absurd (f refl)
-last-name (suc (suc (suc (suc (suc (suc zero)))))) a b c d e f g = absurd (g refl)
-last-name (suc (suc (suc (suc (suc (suc (suc k))))))) a b c d e f g = refl
 
 unfoldable pub stateName : decoder.DecoderState → List ℕ
 stateName decoder.the-variants.Ascii = ascii "ascii"

@@ -27,7 +27,7 @@ use Rattle.kinds.specs.declared.machine.Machine.{Machine}
 use Rattle.kinds.specs.declared.machine.Machine.the-variants.{Utf8, Iso2022Jp, EucKr, Big5, Caseless, Logical, Visual, ArabicFrench}
 use native.Mathlib.Omega.{arith}
 use borrow.Author.Tests.{eqb-true}
-use Rattle.laws.specs.Tests.{both}
+use Rattle.laws.specs.Tests.{both, off}
 use Rattle.big5.specs.Scoring as big5
 use Rattle.euckr.specs.Scoring as euckr
 use Rattle.iso2022jp.specs.Iso2022Jp as iso2022jp
@@ -41,10 +41,6 @@ use Rattle.records.specs.Fresh.{freshUtf8B, asciiState, asciiOut, freshI
 
 no : {A : Type 0} → false ≡ true → A
 no e = absurd (let q : _≡_ {A = ℕ} 0 1 = cc in omega arith)
-
-off : (t : Bool) → not t ≡ true → t ≡ false
-off true e = no e
-off false e = refl
 
 ascii-state : (x : DecoderState) → asciiState x ≡ true → x ≡ D.Ascii
 ascii-state D.Ascii e = refl

@@ -25,21 +25,21 @@ Below n score.None = Unit {0}
 Below n (score.Live m) = ltZ m n ≡ true
 
 -- P of the score of each place below k
-abbrev pub Each : (Score → Type 0) → ℕ → List Place → Type 0
-Each P k ps = (j : ℕ) (d : Place) → j < k → P (getD ps j d .score)
+abbrev pub EachBelow : (Score → Type 0) → ℕ → List Place → Type 0
+EachBelow P k ps = (j : ℕ) (d : Place) → j < k → P (getD ps j d .score)
 
 pub record Leads (ps : List Place) (k : ℕ) (n : ℤ) : Type 0 where
   pub within : k < length ps
   pub there : (d : Place) → getD ps k d .score ≡ score.Live n
-  pub greatest : Each (AtMost n) (length ps) ps
-  pub lowest : Each (Below n) k ps
+  pub greatest : EachBelow (AtMost n) (length ps) ps
+  pub lowest : EachBelow (Below n) k ps
 
 pub record Led (ps : List Place) (k : ℕ) : Type 0 where
   pub most : ℤ
   pub leads : Leads ps k most
 
 abbrev pub Scoreless : List Place → Type 0
-Scoreless ps = Each (λ (s : Score). s ≡ score.None) (length ps) ps
+Scoreless ps = EachBelow (λ (s : Score). s ≡ score.None) (length ps) ps
 
 -- "ascii" before any trigger; after one "none" where no place has a score, else the place that leads
 abbrev pub LeaderFor : State → Leader → Type 0

@@ -17,7 +17,7 @@ use Rattle.places.specs.declared.place.Score.{Score}
 use Rattle.places.specs.declared.place.Score.the-variants as score
 use Rattle.state.specs.State.{triggered}
 use Rattle.state.specs.Leader.{againstBest, betterOf, bestFrom, leaderAs, leaderOf}
-use Rattle.state.specs.Leads.{AtMost, Below, Each, Leads, Scoreless, LeaderFor}
+use Rattle.state.specs.Leads.{AtMost, Below, EachBelow, Leads, Scoreless, LeaderFor}
 use Rattle.state.specs.declared.leader.Best.{Best}
 use Rattle.state.specs.declared.leader.Best.the-variants as best
 use Rattle.state.specs.declared.leader.Leader.{Leader}
@@ -76,10 +76,10 @@ module _ (ps : List Place) (p : Place) where
   new : (d : Place) → getD more (length ps) d ≡ p
   new d = getD-at ps p [] d (length ps) refl
 
-  each-old : (P : Score → Type 0) (k : ℕ) → k ≤ length ps → Each P k ps → Each P k more
+  each-old : (P : Score → Type 0) (k : ℕ) → k ≤ length ps → EachBelow P k ps → EachBelow P k more
   each-old P k l f j d h = subst (λ (x : Place). P (x .score)) (sym (old j d (omega arith))) (f j d h)
 
-  each-more : (P : Score → Type 0) → Each P (length ps) ps → P (p .score) → Each P (length more) more
+  each-more : (P : Score → Type 0) → EachBelow P (length ps) ps → P (p .score) → EachBelow P (length more) more
   each-more P f g j d h = pick (ltb j (length ps)) refl
     where
       pick : (t : Bool) → ltb j (length ps) ≡ t → P (getD (ps ++ (p ∷ [])) j d .score)
@@ -88,11 +88,11 @@ module _ (ps : List Place) (p : Place) where
           let q : length ps ≡ j = omega (arith, h, length-more, ltb-false j (length ps) e) in
           subst (λ (i : ℕ). P (getD (ps ++ (p ∷ [])) i d .score)) q (subst (λ (x : Place). P (x .score)) (sym (new d)) g)
 
-  each-to : (P Q : Score → Type 0) (k : ℕ) → ((s : Score) → P s → Q s) → Each P k ps → Each Q k ps
+  each-to : (P Q : Score → Type 0) (k : ℕ) → ((s : Score) → P s → Q s) → EachBelow P k ps → EachBelow Q k ps
   each-to P Q k f g j d h = f (getD ps j d .score) (g j d h)
 
   -- the new place leads, where it has a score that is greater than what was known
-  leads-new : (n : ℤ) → p .score ≡ score.Live n → Each (Below n) (length ps) ps → Leads more (length ps) n
+  leads-new : (n : ℤ) → p .score ≡ score.Live n → EachBelow (Below n) (length ps) ps → Leads more (length ps) n
   leads-new n e f =
       record {
         within = omega (arith, length-more);

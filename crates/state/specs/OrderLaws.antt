@@ -1,5 +1,5 @@
 -- The in-order test decides, and a start is in order. Assumes nothing.
-use mathlib.Core.Path.{_≡_, refl, sym, ap}
+use mathlib.Core.Path.{_≡_, refl, ap}
 use mathlib.Core.Bool.{Bool, true, false, not, _&&_, _||_}
 use mathlib.Core.List.{[], _∷_}
 use Prim.Native.Nat.{ℕ, zero, suc, _≤_}
@@ -8,7 +8,7 @@ use lib.Dec.{eqb, ltb}
 use lib.ListN.{take}
 use borrow.Author.Tests.{ne-eqb, leb-true, le-leb, le-ltb}
 use Rattle.laws.specs.Lists.{any}
-use Rattle.laws.specs.Tests.{both, neither}
+use Rattle.laws.specs.Tests.{both, neither, off}
 use Rattle.context.specs.Context.{contextOf}
 use Rattle.context.specs.Head.{isTrigger}
 use Rattle.context.specs.declared.Context.{Context}
@@ -20,13 +20,9 @@ use Rattle.state.specs.declared.State.{State}
 use Rattle.state.specs.declared.front.Front.{Front}
 
 -- ---- the test decides, in both directions
-not-true : (t : Bool) → not t ≡ true → t ≡ false
-not-true true e = sym e
-not-true false e = refl
-
 plain-true : (b : ℕ) → plainB b ≡ true → isTrigger b ≡ false
 unfolding plainB
-plain-true b e = not-true (isTrigger b) e
+plain-true b e = off (isTrigger b) e
 
 true-plain : (b : ℕ) → isTrigger b ≡ false → plainB b ≡ true
 unfolding plainB

@@ -2,7 +2,8 @@
 use native.Mathlib.Omega.{arith}
 use mathlib.Core.Path.{_≡_, sym, _∙_}
 use mathlib.Core.Bool.{Bool, true, false}
-use Rattle.detector.specs.FeedLaws.{off, on, judged-order, judged-closed, judged-length, judged-long, judged-accept}
+use Rattle.laws.specs.Tests.{off, on}
+use Rattle.detector.specs.FeedLaws.{judged-order, judged-closed, judged-length, judged-long, judged-accept}
 use Rattle.state.specs.Order.{stateB}
 use Rattle.state.specs.OrderLaws.{order-true}
 use borrow.Author.Needs.{needs}
@@ -28,10 +29,10 @@ sub-if4 : tie.Need-sub-if4
 sub-if4 c = let s = c .before .before .before .before .before .before .before in let e : stateB (s .args .state) ≡ true = sym (c .before .before .before .before .is-in-order .ensures) ∙ on (c .before .before .before .before .is-in-order .result) (c .before .before .before .if1 .left) in order-true (s .args .state) e .front .most
 
 returns-4 : tie.Need-returns-4
-returns-4 c = let s = c .before .before .before .before .before .before .before .before in rw (c .before .before .before .before .before .before .flag .ensures) (judged-long (s .args .state) (s .args .sized) (s .args .bytes) (sym (c .before .before .before .before .before .is-in-order .ensures) ∙ on (c .before .before .before .before .before .is-in-order .result) (c .before .before .before .before .if1 .left)) (c .before .before .before .if2 .left) (on (s .args .sized) (c .before .before .if3 .left)) (c .if4 .taken))
+returns-4 c = let s = c .before .before .before .before .before .before .before .before in rw (c .before .before .before .before .before .before .flag .ensures) (judged-long (s .args .state) (s .args .sized) (s .args .bytes) (sym (c .before .before .before .before .before .is-in-order .ensures) ∙ on (c .before .before .before .before .before .is-in-order .result) (c .before .before .before .before .if1 .left)) (c .before .before .before .if2 .left) (on (s .args .sized) (c .before .before .if3 .left)) (omega (arith, c .if4 .taken)))
 
 returns-5 : tie.Need-returns-5
-returns-5 c = let s = c .before .before .before .before .before .before .before .before in judged-accept (s .args .state) (s .args .sized) (s .args .bytes) (sym (c .before .before .before .before .before .is-in-order .ensures) ∙ on (c .before .before .before .before .before .is-in-order .result) (c .before .before .before .before .if1 .left)) (c .before .before .before .if2 .left) (on (s .args .sized) (c .before .before .if3 .left)) (omega (arith, c .if4 .left))
+returns-5 c = let s = c .before .before .before .before .before .before .before .before in let e : stateB (s .args .state) ≡ true = sym (c .before .before .before .before .before .is-in-order .ensures) ∙ on (c .before .before .before .before .before .is-in-order .result) (c .before .before .before .before .if1 .left) in judged-accept (s .args .state) (s .args .sized) (s .args .bytes) e (c .before .before .before .if2 .left) (on (s .args .sized) (c .before .before .if3 .left)) (omega (arith, c .if4 .left, order-true (s .args .state) e .front .most))
 
 pub judged-spec : {M : Type 1} → statement M
 judged-spec =

@@ -1,7 +1,8 @@
 -- `place` meets its contract. Assumes nothing.
 use mathlib.Core.Path.{ap, _∙_}
 use Rattle.scribe.specs.Page.{onto}
-use Rattle.lines.specs.Names.{placeName, last-name}
+use Rattle.lines.specs.Names.{placeName}
+use Rattle.lines.specs.ShowLaws.{last-name}
 use borrow.Author.Needs.{needs}
 use Rattle.lines.proofs.names.place.Statement.{statement}
 use Rattle.lines.proofs.names.place.Tie as tie

@@ -1,6 +1,6 @@
 -- `end_line` meets its contract. Assumes nothing.
 use mathlib.Core.Path.{_∙_}
-use Rattle.scribe.specs.Page.{onto-one}
+use Rattle.scribe.specs.PageLaws.{onto-one}
 use borrow.Author.Needs.{needs}
 use Rattle.lines.proofs.show.end_line.Statement.{statement}
 use Rattle.lines.proofs.show.end_line.Tie as tie

@@ -1,7 +1,7 @@
 -- `saved` meets its contract. Assumes nothing.
 use mathlib.Core.Path.{_≡_, ap, _∙_}
-use Rattle.scribe.specs.Page.{onto, onto-one}
-use Rattle.scribe.specs.PageLaws.{follow}
+use Rattle.scribe.specs.Page.{onto}
+use Rattle.scribe.specs.PageLaws.{onto-one, follow}
 use Rattle.lines.specs.ShowLaws.{none-saved, one-saved, two-saved}
 use borrow.Author.Needs.{needs}
 use Rattle.lines.proofs.show.saved.Statement.{statement}

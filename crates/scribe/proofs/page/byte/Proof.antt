@@ -1,5 +1,5 @@
 -- `byte` meets its contract. Assumes nothing.
-use Rattle.scribe.specs.Page.{room, full}
+use Rattle.scribe.specs.PageLaws.{room, full}
 use borrow.Author.Needs.{needs}
 use Rattle.scribe.proofs.page.byte.Statement.{statement}
 use Rattle.scribe.proofs.page.byte.Tie as tie

@@ -4,7 +4,8 @@ use Prim.Native.Nat.{_≤_, _-_}
 use native.Mathlib.Omega.{arith}
 use lib.ListN.{length, drop}
 use borrow.Author.Needs.{needs}
-use Rattle.scribe.specs.Page.{page, onto, onto-turn, onto-done}
+use Rattle.scribe.specs.Page.{page, onto}
+use Rattle.scribe.specs.PageLaws.{onto-turn, onto-done}
 use Rattle.scribe.proofs.page.word.Statement.{statement}
 use Rattle.scribe.proofs.page.word.Tie as tie
 
