@@ -5,7 +5,7 @@ use Prim.Native.Nat.{ℕ, _%_, _≤_}
 use lib.Dec.{eqb}
 use lib.IntN.{ℤ, pos, natAbs, _+ℤ_}
 use lib.ListN.{length}
-use Rattle.laws.specs.Run.{Out, none, live, run}
+use Rattle.laws.specs.Run.{Outcome, none, live, run}
 use Rattle.octets.specs.Octets.{ascii}
 use Rattle.weights.specs.Weights.{weightOf, case}
 use Rattle.single.specs.Class.{classOf, caselessOf, isCapital, latinLetter, alphabetic, unless255, space}
@@ -58,11 +58,11 @@ module _ (t : Lent) where
         «longest_word» = longestOf (m .«current_word_len») (m .«longest_word») (alphabetic t b);
       }
 
-  unfoldable pub stepOf : ArabicFrench → ℕ → Out (Unit {0}) ArabicFrench
+  unfoldable pub stepOf : ArabicFrench → ℕ → Outcome ArabicFrench
   stepOf m b = unless255 t b (live (nextOf m b) (gainOf t (m .prev) (m .«prev_ascii») b +ℤ caseGainOf (t .weights) (asciiPair (m .«prev_ascii») b) (m .«case_state») (classOf t b)))
 
   -- the end of the stream is a space
-  abbrev pub closeOf : ArabicFrench → Out (Unit {0}) ArabicFrench
+  abbrev pub closeOf : ArabicFrench → Outcome ArabicFrench
   closeOf m = stepOf m space
 
 -- what n bytes can have led to
@@ -73,7 +73,7 @@ abbrev pub soundB : ℕ → ArabicFrench → Bool
 soundB n m = commonB n (m .prev) (m .«current_word_len») (m .«longest_word»)
 
 -- ---- the answers
-abbrev pub ranAs : Out (Unit {0}) ArabicFrench → Ran
+abbrev pub ranAs : Outcome ArabicFrench → Ran
 ranAs (none d) = Dropped
 ranAs (live m s) = Live m s
 

@@ -6,7 +6,7 @@ use Prim.Native.Nat.{ℕ, _≤_}
 use lib.Dec.{leb, eqb}
 use lib.IntN.{ℤ, pos, natAbs}
 use lib.ListN.{length}
-use Rattle.laws.specs.Run.{Out, none, live, run}
+use Rattle.laws.specs.Run.{dropout, Outcome, none, live, run}
 use Rattle.pairs.specs.Pairs.{isLeadOrNone, releasedOf, smallHeldB}
 use Rattle.laws.specs.Limit.{limit}
 use Rattle.weights.specs.Weights.{weightCount, term}
@@ -38,11 +38,11 @@ pub record Small (w : Scale) : Type 0 where
   pub extension : natAbs (w .extension) ≤ term
 
 -- ---- answers, as outcomes
-abbrev pub outOf : Stepped → Out (Unit {0}) Big5
+abbrev pub outOf : Stepped → Outcome Big5
 outOf (SteppedLive m s) = live m s
-outOf SteppedDropped = none tt
+outOf SteppedDropped = none dropout
 
-abbrev pub ranAs : Out (Unit {0}) Big5 → Ran
+abbrev pub ranAs : Outcome Big5 → Ran
 ranAs (live m s) = Live m s
 ranAs (none d) = Dropped
 
@@ -74,8 +74,8 @@ unfoldable pub ranOf : List ℕ → List ℤ → Big5 → List ℕ → Ran
 ranOf index weights m xs = cond (readyB index weights m xs) (ranAs (run (stepOf (lent index (scaleOf weights))) (live m (pos 0)) xs)) Unfit
 
 -- the end of the stream: none where a lead is pending; a held score counts nothing, and stays
-abbrev pub closeOf : Big5 → Out (Unit {0}) Big5
-closeOf m = cond (eqb (m .lead) 0) (live m (pos 0)) (none tt)
+abbrev pub closeOf : Big5 → Outcome Big5
+closeOf m = cond (eqb (m .lead) 0) (live m (pos 0)) (none dropout)
 
 unfoldable pub closedOf : Big5 → Ran
 closedOf m = cond (soundB limit m) (ranAs (closeOf m)) Unfit

@@ -9,7 +9,7 @@ use lib.IntN.{ℤ, pos, natAbs, _+ℤ_}
 use lib.ListN.{length}
 use borrow.Author.Tests.{leb-true, le-leb, eqb-true, eq-eqb}
 use Rattle.laws.specs.Tests.{both}
-use Rattle.laws.specs.Run.{Out, none, live, run, run-append, Within}
+use Rattle.laws.specs.Run.{dropout, Outcome, none, live, run, run-append, Within}
 use Rattle.laws.specs.Sizes.{abs-add}
 use Rattle.octets.specs.Octets.{ascii, letter}
 use Rattle.pairs.specs.Pairs.{isLeadOrNone, releasedOf, SmallHeld, smallHeldB}
@@ -75,7 +75,7 @@ fair-pick : (t : Bool) (a b : Scored) → Fair a → Fair b → Fair (cond t a b
 fair-pick true a b p q = p
 fair-pick false a b p q = q
 
-within-pick : (t : Bool) (P : Big5 → Type 0) (a b : Out (Unit {0}) Big5) → Within P perByte a → Within P perByte b → Within P perByte (cond t a b)
+within-pick : (t : Bool) (P : Big5 → Type 0) (a b : Outcome Big5) → Within P perByte a → Within P perByte b → Within P perByte (cond t a b)
 within-pick true P a b p q = p
 within-pick false P a b p q = q
 
@@ -139,7 +139,7 @@ module _ (w : Scale) (small : Small w) (m : Big5) (held : SmallHeld (m .held)) w
     unfolding strayOf
     stray-within k =
         within-pick (extends (m .«prev_byte») b) (Sound n) (after lead b (extensionOf w b)) _ (after-within n lead b (extensionOf w b) fits (extension-fair b))
-        (within-pick (eqb k 1 && eqb b 0xFF) (Sound n) (after lead b (scored Other Nothing (w .extension))) (none tt) (after-within n lead b (scored Other Nothing (w .extension)) fits (plain-fair Other (w .extension) (omega (arith, small .extension)))) tt)
+        (within-pick (eqb k 1 && eqb b 0xFF) (Sound n) (after lead b (scored Other Nothing (w .extension))) (none dropout) (after-within n lead b (scored Other Nothing (w .extension)) fits (plain-fair Other (w .extension) (omega (arith, small .extension)))) tt)
 
     error-within : (k : ℕ) → Within (Sound n) perByte (errorOf w m lead b k)
     unfolding errorOf
@@ -168,5 +168,5 @@ weighed weights Dropped h = tt
 weighed weights Unfit h = tt
 
 -- ---- a run over two parts, one after the other
-pub run-joins : (t : Lent) (o : Out (Unit {0}) Big5) (xs ys : List ℕ) → run (stepOf t) o (xs ++ ys) ≡ run (stepOf t) (run (stepOf t) o xs) ys
+pub run-joins : (t : Lent) (o : Outcome Big5) (xs ys : List ℕ) → run (stepOf t) o (xs ++ ys) ≡ run (stepOf t) (run (stepOf t) o xs) ys
 run-joins t o xs ys = run-append (stepOf t) o xs ys

@@ -9,7 +9,7 @@ use lib.Dec.{ltb, eqb}
 use lib.IntN.{ℤ, pos, _+ℤ_}
 use borrow.Author.Tests.{not-true, eq-eqb}
 use Rattle.laws.specs.Tests.{both}
-use Rattle.laws.specs.Run.{Out, none, live}
+use Rattle.laws.specs.Run.{dropout, Outcome, none, live}
 use Rattle.octets.specs.Octets.{between, ascii, letter}
 use Rattle.pairs.specs.Pairs.{isHeldLead, releasedOf}
 use Rattle.pairs.specs.declared.Event.{Event}
@@ -81,7 +81,7 @@ module _ (w : Scale) (m : Big5) where
       (why-pick (letter b) (scored AsciiLetter Nothing (w .extension)) (scored Other Nothing (w .extension)) (why-not AsciiLetter _) (why-not Other _))
 
   -- ---- of a step: a score that is held was so already, and the byte is a lead, or it is held anew
-  WhyOut : Event → Out (Unit {0}) Big5 → Type 0
+  WhyOut : Event → Outcome Big5 → Type 0
   WhyOut v (none d) = Unit {0}
   WhyOut v (live n g) = (k : ℤ) → n .held ≡ Score k → ((v ≡ Pending) × (m .held ≡ Score k)) ⊎ Why w m k
 
@@ -89,12 +89,12 @@ module _ (w : Scale) (m : Big5) where
   unfolding Whys WhyOut
   why-after v lead b s h k e = inr (h k e)
 
-  out-pick : (v : Event) (t : Bool) (a b : Out (Unit {0}) Big5) → WhyOut v a → WhyOut v b → WhyOut v (cond t a b)
+  out-pick : (v : Event) (t : Bool) (a b : Outcome Big5) → WhyOut v a → WhyOut v b → WhyOut v (cond t a b)
   unfolding WhyOut
   out-pick v true a b p q = p
   out-pick v false a b p q = q
 
-  why-none : (v : Event) → WhyOut v (none tt)
+  why-none : (v : Event) → WhyOut v (none dropout)
   unfolding WhyOut
   why-none v = tt
 
@@ -104,7 +104,7 @@ module _ (w : Scale) (m : Big5) where
       let v = Error n in
       out-pick v (isPair (m .«prev_byte») b) (after lead b (unmappedOf w m)) (strayOf w m lead b n) (why-after v lead b (unmappedOf w m) (why-not Cj _))
       (out-pick v (extends (m .«prev_byte») b) (after lead b (extensionOf w b)) _ (why-after v lead b (extensionOf w b) (why-extension b))
-      (out-pick v (eqb n 1 && eqb b 0xFF) (after lead b (scored Other Nothing (w .extension))) (none tt) (why-after v lead b (scored Other Nothing (w .extension)) (why-not Other _)) (why-none v)))
+      (out-pick v (eqb n 1 && eqb b 0xFF) (after lead b (scored Other Nothing (w .extension))) (none dropout) (why-after v lead b (scored Other Nothing (w .extension)) (why-not Other _)) (why-none v)))
 
   why-event : (lead b : ℕ) (v : Event) → WhyOut v (onEvent w m lead b v)
   unfolding WhyOut otherOf

@@ -4,7 +4,7 @@ use mathlib.Core.List.{List}
 use Prim.Native.Nat.{ℕ, _≤_}
 use lib.IntN.{ℤ, pos, natAbs}
 use lib.ListN.{length}
-use Rattle.laws.specs.Run.{Out, none, live, run}
+use Rattle.laws.specs.Run.{Outcome, none, live, run}
 use Rattle.octets.specs.Octets.{ascii}
 use Rattle.single.specs.Class.{caselessOf, alphabetic, unless255, space}
 use Rattle.laws.specs.Limit.{room}
@@ -29,11 +29,11 @@ module _ (t : Lent) where
         «longest_word» = longestOf (m .«current_word_len») (m .«longest_word») (alphabetic t b);
       }
 
-  unfoldable pub stepOf : Caseless → ℕ → Out (Unit {0}) Caseless
+  unfoldable pub stepOf : Caseless → ℕ → Outcome Caseless
   stepOf m b = unless255 t b (live (nextOf m b) (gainOf t (m .prev) (m .«prev_ascii») b))
 
   -- the end of the stream is a space
-  abbrev pub closeOf : Caseless → Out (Unit {0}) Caseless
+  abbrev pub closeOf : Caseless → Outcome Caseless
   closeOf m = stepOf m space
 
 -- what n bytes can have led to
@@ -44,7 +44,7 @@ abbrev pub soundB : ℕ → Caseless → Bool
 soundB n m = commonB n (m .prev) (m .«current_word_len») (m .«longest_word»)
 
 -- ---- the answers
-abbrev pub ranAs : Out (Unit {0}) Caseless → Ran
+abbrev pub ranAs : Outcome Caseless → Ran
 ranAs (none d) = Dropped
 ranAs (live m s) = Live m s
 

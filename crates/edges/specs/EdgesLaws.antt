@@ -14,7 +14,7 @@ use Rattle.laws.specs.Carried.{carried}
 use Rattle.laws.specs.Each.{map-at}
 use Rattle.laws.specs.Limit.{limit}
 use Rattle.laws.specs.Lists.{count, last}
-use Rattle.laws.specs.Run.{Out, live, plus, run}
+use Rattle.laws.specs.Run.{Outcome, live, plus, run}
 use Rattle.laws.specs.Still.{Lives}
 use Rattle.laws.specs.Tests.{either}
 use Rattle.context.specs.Context.{bytesOf, contextOf, pushOf}
@@ -37,7 +37,7 @@ use Rattle.euckr.specs.Edges as euckr-edges
 use Rattle.euckr.specs.Edges.{Word, no-hangul, a-hangul, word-lives}
 use Rattle.euckr.specs.Scoring as euckr
 use Rattle.euckr.specs.declared.EucKr.{EucKr as EucKrRecord}
-use Rattle.kinds.specs.Kinds.{Outcome, freshIn, stepOf}
+use Rattle.kinds.specs.Kinds.{freshIn, stepOf}
 use Rattle.kinds.specs.KindsLaws.{run-utf-8, run-iso2022jp, run-big5, run-euckr}
 use Rattle.lengths.specs.Tables.{Tables, Sized, sizedB}
 use Rattle.lengths.specs.TablesLaws.{lengths-of, true-sized}
@@ -89,7 +89,7 @@ first-reaches b bs e =
 
 module _ (t : Tables) (z : Sized t) (bits b : ℕ) (bs : List ℕ) (short : length (b ∷ bs) ≤ limit) (e : isTrigger b ≡ true) where
   -- a place that takes part is left with the outcome of its machine's run
-  first-leaves : (k : ℕ) (m : Machine) (o : Outcome) → k < 8 → ((d : Place) → getD (slate.startOf bits) k d ≡ place m (slate.takenOf bits (2 ^ k))) → run (stepOf t) (live m (pos 0)) (b ∷ bs) ≡ o → Leaves t bits k (b ∷ bs) (placeAs m o)
+  first-leaves : (k : ℕ) (m : Machine) (o : Outcome Machine) → k < 8 → ((d : Place) → getD (slate.startOf bits) k d ≡ place m (slate.takenOf bits (2 ^ k))) → run (stepOf t) (live m (pos 0)) (b ∷ bs) ≡ o → Leaves t bits k (b ∷ bs) (placeAs m o)
   unfolding slate.startOf
   first-leaves k m o h at q take d =
       let ps = slate.startOf bits in
@@ -128,19 +128,19 @@ abbrev toBig5 : Tables → big5.Lent
 toBig5 t = big5.lent (t .big5) (big5.scaleOf (t .weights))
 
 module _ (t : Tables) (z : Sized t) (bits b : ℕ) (bs : List ℕ) (short : length (b ∷ bs) ≤ limit) (e : isTrigger b ≡ true) where
-  utf-8-leaves : (o : Out (Unit {0}) Utf8Record) → run utf-8.stepOf (live utf-8.fresh (pos 0)) (b ∷ bs) ≡ o → Leaves t bits 0 (b ∷ bs) (placeAs (Utf8 utf-8.fresh) (carried Utf8 o))
+  utf-8-leaves : (o : Outcome Utf8Record) → run utf-8.stepOf (live utf-8.fresh (pos 0)) (b ∷ bs) ≡ o → Leaves t bits 0 (b ∷ bs) (placeAs (Utf8 utf-8.fresh) (carried Utf8 o))
   unfolding slate.startOf
   utf-8-leaves o q = first-leaves t z bits b bs short e 0 (Utf8 utf-8.fresh) (carried Utf8 o) (omega arith) (λ (d : Place). refl) (run-utf-8 t (pos 0) (b ∷ bs) utf-8.fresh ∙ ap (carried Utf8) q)
 
-  iso2022jp-leaves : (o : Out (Unit {0}) Iso2022JpRecord) → run (iso2022jp.stepOf (t .jis)) (live iso2022jp.fresh (pos 0)) (b ∷ bs) ≡ o → Leaves t bits 1 (b ∷ bs) (placeAs (Iso2022Jp iso2022jp.fresh) (carried Iso2022Jp o))
+  iso2022jp-leaves : (o : Outcome Iso2022JpRecord) → run (iso2022jp.stepOf (t .jis)) (live iso2022jp.fresh (pos 0)) (b ∷ bs) ≡ o → Leaves t bits 1 (b ∷ bs) (placeAs (Iso2022Jp iso2022jp.fresh) (carried Iso2022Jp o))
   unfolding slate.startOf
   iso2022jp-leaves o q = first-leaves t z bits b bs short e 1 (Iso2022Jp iso2022jp.fresh) (carried Iso2022Jp o) (omega arith) (λ (d : Place). refl) (run-iso2022jp t (pos 0) (b ∷ bs) iso2022jp.fresh ∙ ap (carried Iso2022Jp) q)
 
-  euckr-leaves : (o : Out (Unit {0}) EucKrRecord) → run (euckr.stepOf (toEucKr t)) (live euckr.freshOf (pos 0)) (b ∷ bs) ≡ o → Leaves t bits 2 (b ∷ bs) (placeAs (EucKr euckr.freshOf) (carried EucKr o))
+  euckr-leaves : (o : Outcome EucKrRecord) → run (euckr.stepOf (toEucKr t)) (live euckr.freshOf (pos 0)) (b ∷ bs) ≡ o → Leaves t bits 2 (b ∷ bs) (placeAs (EucKr euckr.freshOf) (carried EucKr o))
   unfolding slate.startOf
   euckr-leaves o q = first-leaves t z bits b bs short e 2 (EucKr euckr.freshOf) (carried EucKr o) (omega arith) (λ (d : Place). refl) (run-euckr t (pos 0) (b ∷ bs) euckr.freshOf ∙ ap (carried EucKr) q)
 
-  big5-leaves : (o : Out (Unit {0}) Big5Record) → run (big5.stepOf (toBig5 t)) (live big5.freshOf (pos 0)) (b ∷ bs) ≡ o → Leaves t bits 3 (b ∷ bs) (placeAs (Big5 big5.freshOf) (carried Big5 o))
+  big5-leaves : (o : Outcome Big5Record) → run (big5.stepOf (toBig5 t)) (live big5.freshOf (pos 0)) (b ∷ bs) ≡ o → Leaves t bits 3 (b ∷ bs) (placeAs (Big5 big5.freshOf) (carried Big5 o))
   unfolding slate.startOf
   big5-leaves o q = first-leaves t z bits b bs short e 3 (Big5 big5.freshOf) (carried Big5 o) (omega arith) (λ (d : Place). refl) (run-big5 t (pos 0) (b ∷ bs) big5.freshOf ∙ ap (carried Big5) q)
 

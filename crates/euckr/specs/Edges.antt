@@ -8,7 +8,7 @@ use lib.Dec.{ltb}
 use borrow.Author.Tests.{ne-eqb, le-ltb}
 use lib.IntN.{ℤ, pos, _+ℤ_, +ℤ-idl, +ℤ-idr, +ℤ-assoc, +ℤ-comm}
 use lib.ListN.{getD}
-use Rattle.laws.specs.Run.{Out, live, plus, plus-plus, feed, run, run-plus}
+use Rattle.laws.specs.Run.{Outcome, live, plus, plus-plus, feed, run, run-plus}
 use Rattle.laws.specs.Still.{Lives}
 use Rattle.octets.specs.Octets.{between}
 use Rattle.pairs.specs.Pairs.{isLead, decoded, firstOf}
@@ -181,7 +181,7 @@ module _ (t : Lent) where
         let k = m .«current_word_len» + 1 in
         let o = run (stepOf (shortWords t)) (live next score) bs in
         pair-run lead b pair m s bs z
-        ∙ (ap (λ (q : Out (Unit {0}) EucKr). run (stepOf t) q bs) one-more
+        ∙ (ap (λ (q : Outcome EucKr). run (stepOf t) q bs) one-more
         ∙ (run-plus (stepOf t) grown (live next score) bs
         ∙ (ap (plus grown) (rest next score refl ∙ ap (λ (j : ℕ). plus (longsOf (t .scale) j n) o) (hangul-word (withoutLong (t .scale)) (waiting m lead) (t .extras) (unit lead b pair) b))
         ∙ (plus-plus grown (longsOf (t .scale) k n) o

@@ -6,7 +6,7 @@ use Prim.Native.Nat.{ℕ, _≤_}
 use lib.Dec.{leb, eqb}
 use lib.IntN.{ℤ, pos, natAbs}
 use lib.ListN.{length}
-use Rattle.laws.specs.Run.{Out, none, live, run}
+use Rattle.laws.specs.Run.{dropout, Outcome, none, live, run}
 use Rattle.pairs.specs.Pairs.{isLeadOrNone, releasedOf, smallHeldB}
 use Rattle.laws.specs.Limit.{limit, room}
 use Rattle.weights.specs.Weights.{weightCount, term, perByte}
@@ -42,16 +42,16 @@ pub record Small (w : Scale) : Type 0 where
   pub long : natAbs (w .long) ≤ term
 
 -- ---- answers, as outcomes
-abbrev pub outOf : Stepped → Out (Unit {0}) EucKr
+abbrev pub outOf : Stepped → Outcome EucKr
 outOf (SteppedLive m s) = live m s
-outOf SteppedDropped = none tt
+outOf SteppedDropped = none dropout
 
 -- a live outcome's change of the score is at most five terms
-abbrev pub Slight : Out (Unit {0}) EucKr → Type 0
+abbrev pub Slight : Outcome EucKr → Type 0
 Slight (live m g) = natAbs g ≤ perByte
 Slight (none d) = Unit {0}
 
-abbrev pub ranAs : Out (Unit {0}) EucKr → Ran
+abbrev pub ranAs : Outcome EucKr → Ran
 ranAs (live m s) = Live m s
 ranAs (none d) = Dropped
 
@@ -87,8 +87,8 @@ unfoldable pub ranOf : List ℕ → List ℤ → List ℤ → EucKr → List ℕ
 ranOf index extras weights m xs = cond (readyB index extras weights m xs) (ranAs (run (stepOf (lent index extras (scaleOf weights))) (live m (pos 0)) xs)) Unfit
 
 -- the end of the stream: none where a lead is pending; a held score counts nothing, and stays
-abbrev pub closeOf : EucKr → Out (Unit {0}) EucKr
-closeOf m = cond (eqb (m .lead) 0) (live m (pos 0)) (none tt)
+abbrev pub closeOf : EucKr → Outcome EucKr
+closeOf m = cond (eqb (m .lead) 0) (live m (pos 0)) (none dropout)
 
 unfoldable pub closedOf : EucKr → Ran
 closedOf m = cond (soundB room m) (ranAs (closeOf m)) Unfit

@@ -9,7 +9,7 @@ use lib.IntN.{ℤ, pos, natAbs, _+ℤ_}
 use lib.ListN.{length}
 use borrow.Author.Tests.{leb-true, le-leb, eqb-true, eq-eqb}
 use Rattle.laws.specs.Tests.{both}
-use Rattle.laws.specs.Run.{Out, none, live, run, run-append, Within}
+use Rattle.laws.specs.Run.{dropout, Outcome, none, live, run, run-append, Within}
 use Rattle.laws.specs.Sizes.{abs-add}
 use Rattle.octets.specs.Octets.{ascii, letter}
 use Rattle.pairs.specs.Pairs.{isLeadOrNone, SmallHeld, smallHeldB}
@@ -79,15 +79,15 @@ kept-pick n true a b p q = p
 kept-pick n false a b p q = q
 
 -- the record of a live outcome is sound
-abbrev pub SoundOut : ℕ → Out (Unit {0}) EucKr → Type 0
+abbrev pub SoundOut : ℕ → Outcome EucKr → Type 0
 SoundOut n (live m g) = Sound n m
 SoundOut n (none d) = Unit {0}
 
-sound-pick : (n : ℕ) (t : Bool) (a b : Out (Unit {0}) EucKr) → SoundOut n a → SoundOut n b → SoundOut n (cond t a b)
+sound-pick : (n : ℕ) (t : Bool) (a b : Outcome EucKr) → SoundOut n a → SoundOut n b → SoundOut n (cond t a b)
 sound-pick n true a b p q = p
 sound-pick n false a b p q = q
 
-slight-pick : (t : Bool) (a b : Out (Unit {0}) EucKr) → Slight a → Slight b → Slight (cond t a b)
+slight-pick : (t : Bool) (a b : Outcome EucKr) → Slight a → Slight b → Slight (cond t a b)
 slight-pick true a b p q = p
 slight-pick false a b p q = q
 
@@ -140,7 +140,7 @@ module _ (w : Scale) (small : Small w) (n : ℕ) (m : EucKr) (most : m .«curren
         sound-pick (n + 1) (isUserPair (m .«prev_byte») b) (after lead b (hanjaOf w m (w .pua))) _ (after-sound n lead b (hanjaOf w m (w .pua)) fits (hanja-kept (w .pua)))
         (sound-pick (n + 1) (isMacSymbol (m .«prev_byte») b) (after lead b (otherOf m (w .mac))) _ (after-sound n lead b (otherOf m (w .mac)) fits (other-kept (w .mac)))
         (sound-pick (n + 1) (extends (m .«prev_byte») b) (after lead b (extensionOf w b)) _ (after-sound n lead b (extensionOf w b) fits (extension-kept b))
-        (sound-pick (n + 1) (eqb k 1 && isLone b) (after lead b (scored Other 0 Nothing (w .extension))) (none tt) (after-sound n lead b (scored Other 0 Nothing (w .extension)) fits (plain-kept n Other _)) tt)))
+        (sound-pick (n + 1) (eqb k 1 && isLone b) (after lead b (scored Other 0 Nothing (w .extension))) (none dropout) (after-sound n lead b (scored Other 0 Nothing (w .extension)) fits (plain-kept n Other _)) tt)))
 
     event-sound : (extras : List ℤ) (e : Event) → SoundOut (n + 1) (onEvent w m extras lead b e)
     event-sound extras Pending = record { lead-fits = fits; word-most = omega arith; held-small = held }
@@ -163,7 +163,7 @@ module _ (w : Scale) (small : Small w) (m : EucKr) (held : SmallHeld (m .held)) 
       slight-pick (isUserPair (m .«prev_byte») b) (after lead b (hanjaOf w m (w .pua))) _ (hanja-small w small m held (w .pua) (small .pua))
       (slight-pick (isMacSymbol (m .«prev_byte») b) (after lead b (otherOf m (w .mac))) _ (other-small w small m held (w .mac) (small .mac))
       (slight-pick (extends (m .«prev_byte») b) (after lead b (extensionOf w b)) _ (extension-small b)
-      (slight-pick (eqb k 1 && isLone b) (after lead b (scored Other 0 Nothing (w .extension))) (none tt) (omega (arith, small .extension)) tt)))
+      (slight-pick (eqb k 1 && isLone b) (after lead b (scored Other 0 Nothing (w .extension))) (none dropout) (omega (arith, small .extension)) tt)))
 
   module _ (extras : List ℤ) (slight : (u : ℕ) → natAbs (extraOf extras u) ≤ term) where
     unit-small : (u b : ℕ) → natAbs (unitOf w extras m u b .gain) ≤ perByte
@@ -193,7 +193,7 @@ step-slight t small slight n m b s =
     let d = decodeOf (t .index) (m .lead) b in
     event-slight (t .scale) small m (s .held-small) (t .extras) slight (d .lead) b (d .event)
 
-sound-slight : (n : ℕ) (o : Out (Unit {0}) EucKr) → SoundOut n o → Slight o → Within (Sound n) perByte o
+sound-slight : (n : ℕ) (o : Outcome EucKr) → SoundOut n o → Slight o → Within (Sound n) perByte o
 sound-slight n (live m g) p q = (p, q)
 sound-slight n (none d) p q = tt
 
@@ -211,5 +211,5 @@ weighed weights Dropped h = tt
 weighed weights Unfit h = tt
 
 -- ---- a run over two parts, one after the other
-pub run-joins : (t : Lent) (o : Out (Unit {0}) EucKr) (xs ys : List ℕ) → run (stepOf t) o (xs ++ ys) ≡ run (stepOf t) (run (stepOf t) o xs) ys
+pub run-joins : (t : Lent) (o : Outcome EucKr) (xs ys : List ℕ) → run (stepOf t) o (xs ++ ys) ≡ run (stepOf t) (run (stepOf t) o xs) ys
 run-joins t o xs ys = run-append (stepOf t) o xs ys

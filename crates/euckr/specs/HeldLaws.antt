@@ -10,7 +10,7 @@ use lib.Dec.{eqb}
 use lib.IntN.{ℤ, pos, _+ℤ_}
 use borrow.Author.Tests.{not-true, eq-eqb}
 use Rattle.laws.specs.Tests.{both}
-use Rattle.laws.specs.Run.{Out, none, live}
+use Rattle.laws.specs.Run.{dropout, Outcome, none, live}
 use Rattle.octets.specs.Octets.{ascii, letter}
 use Rattle.pairs.specs.Pairs.{isHeldLead}
 use Rattle.pairs.specs.declared.Event.{Event}
@@ -78,7 +78,7 @@ module _ (w : Scale) (m : EucKr) where
       (why-pick (letter b) (scored AsciiLetter 0 Nothing (w .extension)) (scored Other 0 Nothing (w .extension)) (why-not AsciiLetter 0 _) (why-not Other 0 _))
 
   -- ---- of a step: a score that is held was so already, and the byte is a lead, or it is held anew
-  WhyOut : Event → Out (Unit {0}) EucKr → Type 0
+  WhyOut : Event → Outcome EucKr → Type 0
   WhyOut v (none d) = Unit {0}
   WhyOut v (live n g) = (k : ℤ) → n .held ≡ Score k → ((v ≡ Pending) × (m .held ≡ Score k)) ⊎ Why w m k
 
@@ -86,12 +86,12 @@ module _ (w : Scale) (m : EucKr) where
   unfolding Whys WhyOut
   why-after v lead b s h k e = inr (h k e)
 
-  out-pick : (v : Event) (t : Bool) (a b : Out (Unit {0}) EucKr) → WhyOut v a → WhyOut v b → WhyOut v (cond t a b)
+  out-pick : (v : Event) (t : Bool) (a b : Outcome EucKr) → WhyOut v a → WhyOut v b → WhyOut v (cond t a b)
   unfolding WhyOut
   out-pick v true a b p q = p
   out-pick v false a b p q = q
 
-  why-none : (v : Event) → WhyOut v (none tt)
+  why-none : (v : Event) → WhyOut v (none dropout)
   unfolding WhyOut
   why-none v = tt
 
@@ -102,7 +102,7 @@ module _ (w : Scale) (m : EucKr) where
       out-pick v (isUserPair (m .«prev_byte») b) (after lead b (hanjaOf w m (w .pua))) _ (why-after v lead b (hanjaOf w m (w .pua)) (why-not Hanja _ _))
       (out-pick v (isMacSymbol (m .«prev_byte») b) (after lead b (otherOf m (w .mac))) _ (why-after v lead b (otherOf m (w .mac)) (why-not Other 0 _))
       (out-pick v (extends (m .«prev_byte») b) (after lead b (extensionOf w b)) _ (why-after v lead b (extensionOf w b) (why-extension b))
-      (out-pick v (eqb n 1 && isLone b) (after lead b (scored Other 0 Nothing (w .extension))) (none tt) (why-after v lead b (scored Other 0 Nothing (w .extension)) (why-not Other 0 _)) (why-none v))))
+      (out-pick v (eqb n 1 && isLone b) (after lead b (scored Other 0 Nothing (w .extension))) (none dropout) (why-after v lead b (scored Other 0 Nothing (w .extension)) (why-not Other 0 _)) (why-none v))))
 
   why-event : (extras : List ℤ) (lead b : ℕ) (v : Event) → WhyOut v (onEvent w m extras lead b v)
   unfolding WhyOut

@@ -5,7 +5,7 @@ use Prim.Native.Nat.{ℕ, _+_, _-_}
 use lib.Dec.{ltb, eqb}
 use lib.IntN.{ℤ, pos, _+ℤ_}
 use lib.ListN.{getD}
-use Rattle.laws.specs.Run.{Out, none, live}
+use Rattle.laws.specs.Run.{dropout, Outcome, none, live}
 use Rattle.octets.specs.Octets.{between, ascii, letter}
 use Rattle.pairs.specs.Pairs.{isHeldLead, releasedOf}
 use Rattle.pairs.specs.declared.Event.{Event}
@@ -150,27 +150,27 @@ extensionOf w b =
     (cond (letter b) (scored AsciiLetter 0 Nothing (w .extension)) (scored Other 0 Nothing (w .extension)))
 
 -- the record after byte b
-abbrev pub after : ℕ → ℕ → Scored → Out (Unit {0}) EucKr
+abbrev pub after : ℕ → ℕ → Scored → Outcome EucKr
 after lead b s = live (record { lead = lead; «prev_byte» = b; «prev_was_euc_range» = isEuc b; prev = s .prev; «current_word_len» = s .word; held = s .held }) (s .gain)
 
 -- a lead changes nothing else
-abbrev pub pendingOf : EucKr → ℕ → ℕ → Out (Unit {0}) EucKr
+abbrev pub pendingOf : EucKr → ℕ → ℕ → Outcome EucKr
 pendingOf m lead b = after lead b (scored (m .prev) (m .«current_word_len») (m .held) (pos 0))
 
 module _ (w : Scale) (m : EucKr) where
   -- with the byte before an extension, or an extension that is no lead alone, or the machine drops out
-  unfoldable pub strayOf : ℕ → ℕ → ℕ → Out (Unit {0}) EucKr
+  unfoldable pub strayOf : ℕ → ℕ → ℕ → Outcome EucKr
   strayOf lead b length =
       cond (extends (m .«prev_byte») b) (after lead b (extensionOf w b))
-      (cond (eqb length 1 && isLone b) (after lead b (scored Other 0 Nothing (w .extension))) (none tt))
+      (cond (eqb length 1 && isLone b) (after lead b (scored Other 0 Nothing (w .extension))) (none dropout))
 
-  unfoldable pub errorOf : ℕ → ℕ → ℕ → Out (Unit {0}) EucKr
+  unfoldable pub errorOf : ℕ → ℕ → ℕ → Outcome EucKr
   errorOf lead b length =
       cond (isUserPair (m .«prev_byte») b) (after lead b (hanjaOf w m (w .pua)))
       (cond (isMacSymbol (m .«prev_byte») b) (after lead b (otherOf m (w .mac))) (strayOf lead b length))
 
   -- an event at byte b, with the decoder's lead after it. (The decoder yields no two code points; the Rust would look at the first)
-  abbrev pub onEvent : List ℤ → ℕ → ℕ → Event → Out (Unit {0}) EucKr
+  abbrev pub onEvent : List ℤ → ℕ → ℕ → Event → Outcome EucKr
   onEvent extras lead b Pending = pendingOf m lead b
   onEvent extras lead b (Point point) = after lead b (unitOf w extras m point b)
   onEvent extras lead b (Two p q) = after lead b (unitOf w extras m p b)
@@ -188,5 +188,5 @@ lent index extras scale = record { index = index; extras = extras; scale = scale
 abbrev pub freshOf : EucKr
 freshOf = record { lead = 0; «prev_byte» = 0; «prev_was_euc_range» = false; prev = Other; «current_word_len» = 0; held = Nothing }
 
-unfoldable pub stepOf : Lent → EucKr → ℕ → Out (Unit {0}) EucKr
+unfoldable pub stepOf : Lent → EucKr → ℕ → Outcome EucKr
 stepOf t m b = onEvent (t .scale) m (t .extras) (decodeOf (t .index) (m .lead) b .lead) b (decodeOf (t .index) (m .lead) b .event)

@@ -10,8 +10,7 @@ use lib.Dec.{eqb}
 use borrow.Author.Tests.{eqb-true}
 use Rattle.laws.specs.Tests.{either, through}
 use Rattle.laws.specs.Validator.{end-of-queue, byte, Result, after, at-start, on, outcomeBy, decoded, decodes}
-use Rattle.laws.specs.Run.{run}
-use Rattle.laws.specs.Still.{ended}
+use Rattle.laws.specs.Run.{run, ended}
 use Rattle.octets.specs.Octets.{between}
 use Rattle.octets.specs.BetweenLaws.{below, between-low, between-high}
 use Rattle.iso2022jp.specs.declared.DecoderState.the-variants.{LeadByte}

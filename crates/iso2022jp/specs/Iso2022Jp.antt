@@ -9,7 +9,7 @@ use lib.IntN.{pos}
 use lib.ListN.{length, getD}
 use Rattle.laws.specs.Lists.{isIn}
 use Rattle.laws.specs.Limit.{limit}
-use Rattle.laws.specs.Run.{Out, none, live, run}
+use Rattle.laws.specs.Run.{dropout, Outcome, none, live, run}
 use Rattle.octets.specs.Octets.{between}
 use Rattle.iso2022jp.specs.declared.DecoderState.{DecoderState}
 use Rattle.iso2022jp.specs.declared.DecoderState.the-variants.{Ascii, Roman, Katakana, LeadByte, TrailByte, EscapeStart, Escape}
@@ -25,7 +25,7 @@ use Rattle.iso2022jp.specs.declared.Ran.the-variants.{Live, Dropped, Unf
 
 -- nothing is carried by a machine that dropped out
 abbrev pub Outcome : Type 0
-Outcome = Out (Unit {0}) Iso2022Jp
+Outcome = Outcome Iso2022Jp
 
 -- ---- records
 abbrev pub holds : DecoderState → OutputState → ℕ → Bool → Iso2022Jp
@@ -80,7 +80,7 @@ abbrev pub alive : Iso2022Jp → Outcome
 alive m = live m (pos 0)
 
 abbrev pub dropped : Outcome
-dropped = none tt
+dropped = none dropout
 
 abbrev pub escapeByte : ℕ
 escapeByte = 0x1B

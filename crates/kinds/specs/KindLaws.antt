@@ -5,7 +5,7 @@ use mathlib.Core.List.{List}
 use Prim.Native.Nat.{ℕ, _+_}
 use lib.IntN.{ℤ}
 use Rattle.laws.specs.Carried.{carried, Holds, run-holds}
-use Rattle.laws.specs.Run.{Out, none, live, run}
+use Rattle.laws.specs.Run.{Outcome, none, live, run}
 use Rattle.kinds.specs.Kinds.{kindOf, freshIn, stepOf, closeOf}
 use Rattle.kinds.specs.Sound.{takesSpace, reachOf}
 use Rattle.lengths.specs.Tables.{Singles, Tables}
@@ -50,7 +50,7 @@ unfolding reachOf
 reach-open m n = refl
 
 -- ---- an outcome that is carried under a kind
-carried-alike : {S : Type 0} (wrap : S → Machine) (m : Machine) → ((x : S) → Alike m (wrap x)) → (o : Out (Unit {0}) S) → Holds (Alike m) (carried wrap o)
+carried-alike : {S : Type 0} (wrap : S → Machine) (m : Machine) → ((x : S) → Alike m (wrap x)) → (o : Outcome S) → Holds (Alike m) (carried wrap o)
 unfolding carried
 carried-alike wrap m f (none d) = tt
 carried-alike wrap m f (live x s) = f x
@@ -67,7 +67,7 @@ module _ (t : Tables) where
   step-alike (Visual m) b = carried-alike Visual (Visual m) (λ x. refl) _
   step-alike (ArabicFrench m) b = carried-alike ArabicFrench (ArabicFrench m) (λ x. refl) _
 
-  holds-alike : (m k : Machine) → Alike m k → (o : Out (Unit {0}) Machine) → Holds (Alike k) o → Holds (Alike m) o
+  holds-alike : (m k : Machine) → Alike m k → (o : Outcome Machine) → Holds (Alike k) o → Holds (Alike m) o
   holds-alike m k e (none d) h = tt
   holds-alike m k e (live x s) h = h ∙ e
 

@@ -4,7 +4,7 @@ use mathlib.Core.List.{List}
 use Prim.Native.Nat.{ℕ, _≤_}
 use lib.IntN.{ℤ, pos, natAbs}
 use Rattle.laws.specs.Carried.{carried}
-use Rattle.laws.specs.Run.{Out, none, live}
+use Rattle.laws.specs.Run.{Outcome, none, live}
 use Rattle.big5.specs.Big5 as big5
 use Rattle.big5.specs.Scoring as big5-scoring
 use Rattle.big5.specs.declared.Ran.{Ran as Big5Ran}
@@ -37,10 +37,6 @@ use Rattle.kinds.specs.declared.machine.Machine.the-variants.{Utf8, Iso2
 use Rattle.kinds.specs.declared.machine.Ran.{Ran}
 use Rattle.kinds.specs.declared.machine.Ran.the-variants.{Live, Dropped, Unfit}
 
--- nothing is carried by a machine that dropped out
-abbrev pub Outcome : Type 0
-Outcome = Out (Unit {0}) Machine
-
 -- the number of the place that holds machines of this kind
 unfoldable pub kindOf : Machine → ℕ
 kindOf (Utf8 m) = 0
@@ -64,7 +60,7 @@ freshIn (Visual m) = Visual visual.freshOf
 freshIn (ArabicFrench m) = ArabicFrench arabicFrench.freshOf
 
 -- ---- one byte
-unfoldable pub stepOf : Tables → Machine → ℕ → Outcome
+unfoldable pub stepOf : Tables → Machine → ℕ → Outcome Machine
 stepOf t (Utf8 m) b = carried Utf8 (utf-8.stepOf m b)
 stepOf t (Iso2022Jp m) b = carried Iso2022Jp (iso2022jp.stepOf (t .jis) m b)
 stepOf t (EucKr m) b = carried EucKr (euckr-scoring.stepOf (euckr-scoring.lent (t .euckr) (t .extras) (euckr-scoring.scaleOf (t .weights))) m b)
@@ -75,7 +71,7 @@ stepOf t (Visual m) b = carried Visual (visual.stepOf (lentTo (t .singles .visua
 stepOf t (ArabicFrench m) b = carried ArabicFrench (arabicFrench.stepOf (lentTo (t .singles .arabicFrench) (t .weights)) m b)
 
 -- ---- the end of the stream
-unfoldable pub closeOf : Singles → List ℤ → Machine → Outcome
+unfoldable pub closeOf : Singles → List ℤ → Machine → Outcome Machine
 closeOf s w (Utf8 m) = carried Utf8 (utf-8.closeOf m)
 closeOf s w (Iso2022Jp m) = carried Iso2022Jp (iso2022jp.closeOf m)
 closeOf s w (EucKr m) = carried EucKr (euckr.closeOf m)
@@ -86,7 +82,7 @@ closeOf s w (Visual m) = carried Visual (visual.closeOf (lentTo (s .visual) w) m
 closeOf s w (ArabicFrench m) = carried ArabicFrench (arabicFrench.closeOf (lentTo (s .arabicFrench) w) m)
 
 -- ---- the code's answers
-unfoldable pub ranAs : Outcome → Ran
+unfoldable pub ranAs : Outcome Machine → Ran
 ranAs (none d) = Dropped
 ranAs (live m s) = Live m s
 

@@ -9,7 +9,7 @@ use lib.IntN.{ℤ, pos}
 use lib.ListN.{length}
 use Rattle.laws.specs.Carried.{carried, run-carried}
 use Rattle.laws.specs.Limit.{limit, room}
-use Rattle.laws.specs.Run.{Out, none, live, run}
+use Rattle.laws.specs.Run.{dropout, Outcome, none, live, run}
 use Rattle.laws.specs.Still.{Ends}
 use Rattle.laws.specs.Tests.{either}
 use Rattle.big5.specs.Big5 as big5
@@ -58,7 +58,7 @@ use Rattle.utf8.specs.Utf8Laws as utf-8-laws
 use Rattle.utf8.specs.declared.Ran.{Ran as Utf8Ran}
 use Rattle.utf8.specs.declared.Ran.the-variants as utf-8-ran
 use Rattle.utf8.specs.declared.Utf8.{Utf8 as Utf8Record}
-use Rattle.kinds.specs.Kinds.{Outcome, stepOf, closeOf, ranAs, ofUtf8, ofIso2022Jp, ofEucKr, ofBig5, ofCaseless, ofLogical, ofVisual, ofArabicFrench, ranOf, closedOf, Small, WeighedIn, Weighed}
+use Rattle.kinds.specs.Kinds.{stepOf, closeOf, ranAs, ofUtf8, ofIso2022Jp, ofEucKr, ofBig5, ofCaseless, ofLogical, ofVisual, ofArabicFrench, ranOf, closedOf, Small, WeighedIn, Weighed}
 use Rattle.kinds.specs.Sound.{SoundFor}
 use Rattle.lengths.specs.Tables.{Single, Singles, Tables, lentTo, Sized}
 use Rattle.lengths.specs.TablesLaws.{SizedOne, Lengths, lengths-of, single-sized}
@@ -102,45 +102,45 @@ module _ (t : Tables) (s : ℤ) (xs : List ℕ) where
   run-arabicFrench m = run-carried ArabicFrench (arabicFrench.stepOf (lentTo (t .singles .arabicFrench) (t .weights))) (stepOf t) (λ (n : ArabicFrenchRecord) (b : ℕ). refl) (live m s) xs
 
 -- ---- an answer of each kind is that of its outcome
-still-answer : {S : Type 0} (P : S → Type 0) (wrap : S → Machine) (answer : Out (Unit {0}) S → Ran) → answer (none tt) ≡ Dropped → ((m : S) (s : ℤ) → answer (live m s) ≡ Live (wrap m) (pos 0)) → (o : Out (Unit {0}) S) → Ends P (pos 0) o → answer o ≡ ranAs (carried wrap o)
+still-answer : {S : Type 0} (P : S → Type 0) (wrap : S → Machine) (answer : Outcome S → Ran) → answer (none dropout) ≡ Dropped → ((m : S) (s : ℤ) → answer (live m s) ≡ Live (wrap m) (pos 0)) → (o : Outcome S) → Ends P (pos 0) o → answer o ≡ ranAs (carried wrap o)
 unfolding ranAs carried
 still-answer P wrap answer none-is live-is (none d) h = none-is
 still-answer P wrap answer none-is live-is (live m s) h = live-is m s ∙ ap (Live (wrap m)) (sym (h .1))
 
-utf-8-answer : (o : Out (Unit {0}) Utf8Record) → Ends utf-8.Sound (pos 0) o → ofUtf8 (utf-8.ranAs o) ≡ ranAs (carried Utf8 o)
+utf-8-answer : (o : Outcome Utf8Record) → Ends utf-8.Sound (pos 0) o → ofUtf8 (utf-8.ranAs o) ≡ ranAs (carried Utf8 o)
 unfolding utf-8.ranAs
-utf-8-answer o h = still-answer utf-8.Sound Utf8 (λ (p : Out (Unit {0}) Utf8Record). ofUtf8 (utf-8.ranAs p)) refl (λ (m : Utf8Record) (s : ℤ). refl) o h
+utf-8-answer o h = still-answer utf-8.Sound Utf8 (λ (p : Outcome Utf8Record). ofUtf8 (utf-8.ranAs p)) refl (λ (m : Utf8Record) (s : ℤ). refl) o h
 
-iso2022jp-answer : (o : Out (Unit {0}) Iso2022JpRecord) → Ends iso2022jp.Sound (pos 0) o → ofIso2022Jp (iso2022jp.ranAs o) ≡ ranAs (carried Iso2022Jp o)
+iso2022jp-answer : (o : Outcome Iso2022JpRecord) → Ends iso2022jp.Sound (pos 0) o → ofIso2022Jp (iso2022jp.ranAs o) ≡ ranAs (carried Iso2022Jp o)
 unfolding iso2022jp.ranAs
-iso2022jp-answer o h = still-answer iso2022jp.Sound Iso2022Jp (λ (p : Out (Unit {0}) Iso2022JpRecord). ofIso2022Jp (iso2022jp.ranAs p)) refl (λ (m : Iso2022JpRecord) (s : ℤ). refl) o h
+iso2022jp-answer o h = still-answer iso2022jp.Sound Iso2022Jp (λ (p : Outcome Iso2022JpRecord). ofIso2022Jp (iso2022jp.ranAs p)) refl (λ (m : Iso2022JpRecord) (s : ℤ). refl) o h
 
-euckr-answer : (o : Out (Unit {0}) EucKrRecord) → ofEucKr (euckr.ranAs o) ≡ ranAs (carried EucKr o)
+euckr-answer : (o : Outcome EucKrRecord) → ofEucKr (euckr.ranAs o) ≡ ranAs (carried EucKr o)
 unfolding ranAs carried
 euckr-answer (none d) = refl
 euckr-answer (live m s) = refl
 
-big5-answer : (o : Out (Unit {0}) Big5Record) → ofBig5 (big5.ranAs o) ≡ ranAs (carried Big5 o)
+big5-answer : (o : Outcome Big5Record) → ofBig5 (big5.ranAs o) ≡ ranAs (carried Big5 o)
 unfolding ranAs carried
 big5-answer (none d) = refl
 big5-answer (live m s) = refl
 
-caseless-answer : (o : Out (Unit {0}) CaselessRecord) → ofCaseless (caseless.ranAs o) ≡ ranAs (carried Caseless o)
+caseless-answer : (o : Outcome CaselessRecord) → ofCaseless (caseless.ranAs o) ≡ ranAs (carried Caseless o)
 unfolding ranAs carried
 caseless-answer (none d) = refl
 caseless-answer (live m s) = refl
 
-logical-answer : (o : Out (Unit {0}) LogicalRecord) → ofLogical (logical.ranAs o) ≡ ranAs (carried Logical o)
+logical-answer : (o : Outcome LogicalRecord) → ofLogical (logical.ranAs o) ≡ ranAs (carried Logical o)
 unfolding ranAs carried
 logical-answer (none d) = refl
 logical-answer (live m s) = refl
 
-visual-answer : (o : Out (Unit {0}) VisualRecord) → ofVisual (visual.ranAs o) ≡ ranAs (carried Visual o)
+visual-answer : (o : Outcome VisualRecord) → ofVisual (visual.ranAs o) ≡ ranAs (carried Visual o)
 unfolding ranAs carried
 visual-answer (none d) = refl
 visual-answer (live m s) = refl
 
-arabicFrench-answer : (o : Out (Unit {0}) ArabicFrenchRecord) → ofArabicFrench (arabicFrench.ranAs o) ≡ ranAs (carried ArabicFrench o)
+arabicFrench-answer : (o : Outcome ArabicFrenchRecord) → ofArabicFrench (arabicFrench.ranAs o) ≡ ranAs (carried ArabicFrench o)
 unfolding ranAs carried
 arabicFrench-answer (none d) = refl
 arabicFrench-answer (live m s) = refl
@@ -267,7 +267,7 @@ module _ (c : ℕ) where
   unfolding euckr.closedOf
   closed-euckr m =
       either (euckr.Bounded c) (euckr.soundB room m)
-      (λ e. either (λ (o : Out (Unit {0}) EucKrRecord). euckr.Bounded c (euckr.ranAs o)) (eqb (m .lead) 0) (λ e. omega arith) (λ e. tt))
+      (λ e. either (λ (o : Outcome EucKrRecord). euckr.Bounded c (euckr.ranAs o)) (eqb (m .lead) 0) (λ e. omega arith) (λ e. tt))
       (λ e. tt)
 
   -- the end of the stream changes no score of it
@@ -275,7 +275,7 @@ module _ (c : ℕ) where
   unfolding big5.closedOf
   closed-big5 m =
       either (big5.Bounded c) (big5.soundB limit m)
-      (λ e. either (λ (o : Out (Unit {0}) Big5Record). big5.Bounded c (big5.ranAs o)) (eqb (m .lead) 0) (λ e. omega arith) (λ e. tt))
+      (λ e. either (λ (o : Outcome Big5Record). big5.Bounded c (big5.ranAs o)) (eqb (m .lead) 0) (λ e. omega arith) (λ e. tt))
       (λ e. tt)
 
 module _ (w : List ℤ) where

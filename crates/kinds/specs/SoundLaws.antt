@@ -10,7 +10,7 @@ use lib.ListN.{length}
 use borrow.Author.Tests.{leb-true, le-leb}
 use Rattle.laws.specs.Carried.{carried, Holds, holds-all, holds-carried, run-holds}
 use Rattle.laws.specs.Lists.{any}
-use Rattle.laws.specs.Run.{Out, none, live, run}
+use Rattle.laws.specs.Run.{Outcome, none, live, run}
 use Rattle.laws.specs.Still.{Ends}
 use Rattle.laws.specs.Tests.{both, either}
 use Rattle.big5.specs.Big5 as big5
@@ -101,11 +101,11 @@ fresh-sound n reach (Visual m) = (omega arith, record { punctuation-most = omega
 fresh-sound n reach (ArabicFrench m) = (omega arith, record { prev-below = omega arith; word-most = omega arith; longest-most = omega arith })
 
 -- ---- a stretch
-ends-holds : {S : Type 0} (P : S → Type 0) (s : ℤ) (o : Out (Unit {0}) S) → Ends P s o → Holds P o
+ends-holds : {S : Type 0} (P : S → Type 0) (s : ℤ) (o : Outcome S) → Ends P s o → Holds P o
 ends-holds P s (none d) h = tt
 ends-holds P s (live m t) h = h .0
 
-holds-more : {S : Type 0} (P Q : S → Type 0) (o : Out (Unit {0}) S) → ((m : S) → P m → Q m) → Holds P o → Holds Q o
+holds-more : {S : Type 0} (P Q : S → Type 0) (o : Outcome S) → ((m : S) → P m → Q m) → Holds P o → Holds Q o
 holds-more P Q (none d) f h = tt
 holds-more P Q (live m s) f h = f m h
 
@@ -114,7 +114,7 @@ module _ (t : Tables) (n : ℕ) (xs : List ℕ) where
   after = n + length xs
 
   -- each kind's own run, lifted
-  lifted : {S : Type 0} (wrap : S → Machine) (m : S) (step : S → ℕ → Out (Unit {0}) S) → run (stepOf t) (live (wrap m) (pos 0)) xs ≡ carried wrap (run step (live m (pos 0)) xs) → Holds (λ (k : S). SoundFor after after (wrap k)) (run step (live m (pos 0)) xs) → Holds (SoundFor after after) (run (stepOf t) (live (wrap m) (pos 0)) xs)
+  lifted : {S : Type 0} (wrap : S → Machine) (m : S) (step : S → ℕ → Outcome S) → run (stepOf t) (live (wrap m) (pos 0)) xs ≡ carried wrap (run step (live m (pos 0)) xs) → Holds (λ (k : S). SoundFor after after (wrap k)) (run step (live m (pos 0)) xs) → Holds (SoundFor after after) (run (stepOf t) (live (wrap m) (pos 0)) xs)
   lifted wrap m step e h = rw e (holds-carried wrap (SoundFor after after) (run step (live m (pos 0)) xs) h)
 
   pub run-sound : (m : Machine) → WeighedIn m (t .weights) → SoundFor n n m → Holds (SoundFor after after) (run (stepOf t) (live m (pos 0)) xs)

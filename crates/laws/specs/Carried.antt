@@ -6,8 +6,7 @@ use native.Mathlib.Nat.{add-zero}
 use native.Mathlib.Omega.{arith}
 use lib.IntN.{ℤ}
 use lib.ListN.{length}
-use Rattle.laws.specs.Run.{Out, none, live, plus, feed, run}
-use Rattle.laws.specs.Still.{ended}
+use Rattle.laws.specs.Run.{Out, none, live, plus, feed, run, ended}
 
 module _ {D S T : Type 0} (wrap : S → T) where
   unfoldable pub carried : Out D S → Out D T

@@ -1,5 +1,5 @@
 -- A machine's outcome, and its run over a stretch of bytes. A step gives the record after one byte and by how much the
--- score changes, or that the machine drops out. D is what a drop-out carries. Assumes nothing.
+-- score changes, or that the machine drops out. Assumes nothing.
 use mathlib.Core.Path.{_≡_, refl, sym, ap, _∙_}
 use mathlib.Core.List.{List, [], _∷_, _++_}
 use Prim.Native.Nat.{ℕ, suc, _+_, _*_, _<_, _≤_}
@@ -11,9 +11,20 @@ use lib.ListN.{length, getD, drop}
 use lib.Seq.{drop-cons}
 use Rattle.laws.specs.Sizes.{abs-add}
 
+-- D is what a drop-out carries
 pub data Out (D S : Type 0) : Type 0 where
   none : D → Out D S
   live : S → ℤ → Out D S
+
+-- a machine that drops out carries nothing
+abbrev pub Dropout : Type 0
+Dropout = Unit {0}
+
+abbrev pub dropout : Dropout
+dropout = tt
+
+abbrev pub Outcome : Type 0 → Type 0
+Outcome S = Out Dropout S
 
 -- an outcome whose score is larger by k
 unfoldable pub plus : {D S : Type 0} → ℤ → Out D S → Out D S
@@ -30,6 +41,11 @@ module _ {D S : Type 0} (step : S → ℕ → Out D S) where
   unfoldable pub run : Out D S → List ℕ → Out D S
   run o [] = o
   run o (b ∷ bs) = run (feed o b) bs
+
+-- the end of the stream, from what the bytes before it gave
+unfoldable pub ended : {D S : Type 0} → (S → Out D S) → Out D S → Out D S
+ended close (none d) = none d
+ended close (live m s) = plus s (close m)
 
 -- ---- the three laws
 pub plus-plus : {D S : Type 0} (j k : ℤ) (o : Out D S) → plus j (plus k o) ≡ plus (j +ℤ k) o

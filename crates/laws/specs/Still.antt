@@ -8,7 +8,7 @@ use lib.IntN.{ℤ, pos, _+ℤ_, +ℤ-idr}
 use lib.ListN.{length, getD, drop}
 use Rattle.laws.specs.Lists.{any}
 use Rattle.laws.specs.Tests.{neither}
-use Rattle.laws.specs.Run.{Out, none, live, plus, feed, run, plus-zero, run-append, run-none, run-plus, turn-live}
+use Rattle.laws.specs.Run.{Out, none, live, plus, feed, run, plus-zero, run-append, run-none, run-plus, turn-live, ended}
 
 abbrev pub Lives : {D S : Type 0} → Out D S → Type 0
 Lives {S} o = (m : S) × ((s : ℤ) × (o ≡ live m s))
@@ -78,11 +78,7 @@ module _ {D S : Type 0} (step : S → ℕ → Out D S) where
   pub lives-begun : (o : Out D S) (xs ys : List ℕ) → Lives (run step o (xs ++ ys)) → Lives (run step o xs)
   lives-begun o xs ys l = begun (run step o xs) ys (rw (run-append step o xs ys) at l)
 
--- ---- the end of the stream, from what the bytes before it gave
-unfoldable pub ended : {D S : Type 0} → (S → Out D S) → Out D S → Out D S
-ended close (none d) = none d
-ended close (live m s) = plus s (close m)
-
+-- ---- the end of the stream
 module _ {D S : Type 0} where
   pub none-live : {d : D} {m : S} {s : ℤ} → none d ≡ live m s → ⊥
   none-live e = let z : _≡_ {A = ℕ} 0 1 = cc in omega arith

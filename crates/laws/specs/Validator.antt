@@ -5,8 +5,8 @@ use mathlib.Core.Path.{_≡_, ap, _∙_}
 use mathlib.Core.List.{List, [], _∷_}
 use Prim.Native.Nat.{ℕ}
 use lib.IntN.{pos}
-use Rattle.laws.specs.Run.{Out, none, live, run, run-nil, plus-zero}
-use Rattle.laws.specs.Still.{ended, run-first, run-drops}
+use Rattle.laws.specs.Run.{dropout, Outcome, none, live, run, run-nil, plus-zero, ended}
+use Rattle.laws.specs.Still.{run-first, run-drops}
 
 -- what a decoder reads from its queue
 pub data Item : Type 0 where
@@ -45,14 +45,14 @@ decoded handler d [] = handler d end-of-queue
 decoded handler d (b ∷ bs) = unless-error (handler d (byte b)) (λ d′. decoded handler d′ bs)
 
 -- an error drops a machine out; all else leaves it alive, with its score as it was and the record of the variables
-unfoldable pub outcomeBy : {Vars S : Type 0} → (Vars → S) → Result Vars → Out (Unit {0}) S
+unfoldable pub outcomeBy : {Vars S : Type 0} → (Vars → S) → Result Vars → Outcome S
 outcomeBy recordOf (continue d) = live (recordOf d) (pos 0)
 outcomeBy recordOf (code-point d) = live (recordOf d) (pos 0)
-outcomeBy recordOf (error d) = none tt
+outcomeBy recordOf (error d) = none dropout
 outcomeBy recordOf (finished d) = live (recordOf d) (pos 0)
 
 -- ---- from each item to a whole stream
-module _ {Vars S : Type 0} (handler : Vars → Item → Result Vars) (initial : Vars) (recordOf : Vars → S) (step : S → ℕ → Out (Unit {0}) S) (close : S → Out (Unit {0}) S) where
+module _ {Vars S : Type 0} (handler : Vars → Item → Result Vars) (initial : Vars) (recordOf : Vars → S) (step : S → ℕ → Outcome S) (close : S → Outcome S) where
   abbrev pub AgreesAt : Vars → Type 0
   AgreesAt d = ((b : ℕ) → step (recordOf d) b ≡ outcomeBy recordOf (handler d (byte b))) × (close (recordOf d) ≡ outcomeBy recordOf (handler d end-of-queue))
 

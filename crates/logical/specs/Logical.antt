@@ -5,7 +5,7 @@ use Prim.Native.Nat.{ℕ, _≤_}
 use lib.Dec.{leb}
 use lib.IntN.{ℤ, pos, natAbs}
 use lib.ListN.{length}
-use Rattle.laws.specs.Run.{Out, none, live, run}
+use Rattle.laws.specs.Run.{Outcome, none, live, run}
 use Rattle.octets.specs.Octets.{ascii}
 use Rattle.single.specs.Class.{caselessOf, alphabetic, alphabeticOf, unless255, space}
 use Rattle.laws.specs.Limit.{room}
@@ -40,11 +40,11 @@ module _ (t : Lent) where
         «longest_word» = longestOf (m .«current_word_len») (m .«longest_word») (alphabetic t b);
       }
 
-  unfoldable pub stepOf : Logical → ℕ → Out (Unit {0}) Logical
+  unfoldable pub stepOf : Logical → ℕ → Outcome Logical
   stepOf m b = unless255 t b (live (nextOf m b) (gainOf t (m .prev) (m .«prev_ascii») b))
 
   -- the end of the stream is a space
-  abbrev pub closeOf : Logical → Out (Unit {0}) Logical
+  abbrev pub closeOf : Logical → Outcome Logical
   closeOf m = stepOf m space
 
 -- what n bytes can have led to
@@ -56,7 +56,7 @@ abbrev pub soundB : ℕ → Logical → Bool
 soundB n m = leb (m .«plausible_punctuation») n && commonB n (m .prev) (m .«current_word_len») (m .«longest_word»)
 
 -- ---- the answers
-abbrev pub ranAs : Out (Unit {0}) Logical → Ran
+abbrev pub ranAs : Outcome Logical → Ran
 ranAs (none d) = Dropped
 ranAs (live m s) = Live m s
 

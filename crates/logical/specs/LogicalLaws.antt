@@ -8,7 +8,7 @@ use lib.IntN.{ℤ, pos}
 use lib.ListN.{length}
 use borrow.Author.Tests.{leb-true, le-leb}
 use Rattle.laws.specs.Tests.{both}
-use Rattle.laws.specs.Run.{Out, none, live, run, run-one}
+use Rattle.laws.specs.Run.{dropout, Outcome, none, live, run, run-one}
 use Rattle.single.specs.Class.{classOf, alphabetic, space}
 use Rattle.single.specs.ClassLaws.{at255, not255, live-is}
 use Rattle.laws.specs.Limit.{room}
@@ -22,15 +22,15 @@ use Rattle.logical.specs.declared.Ran.{Ran}
 use Rattle.logical.specs.declared.Ran.the-variants.{Live, Dropped, Unfit}
 
 -- ---- an answer and its outcome
-pub live-out : (o : Out (Unit {0}) Logical) (n : Logical) (g : ℤ) → ranAs o ≡ Live n g → o ≡ live n g
+pub live-out : (o : Outcome Logical) (n : Logical) (g : ℤ) → ranAs o ≡ Live n g → o ≡ live n g
 live-out (none d) n g e = cc
 live-out (live m s) n g e = cc
 
-pub dropped-out : (o : Out (Unit {0}) Logical) → ranAs o ≡ Dropped → o ≡ none tt
+pub dropped-out : (o : Outcome Logical) → ranAs o ≡ Dropped → o ≡ none dropout
 dropped-out (none d) e = refl
 dropped-out (live m s) e = cc
 
-pub never-unfit : (o : Out (Unit {0}) Logical) → ranAs o ≡ Unfit → ⊥
+pub never-unfit : (o : Outcome Logical) → ranAs o ≡ Unfit → ⊥
 never-unfit (none d) e = let z : _≡_ {A = ℕ} 0 1 = cc in omega arith
 never-unfit (live m s) e = let z : _≡_ {A = ℕ} 0 1 = cc in omega arith
 

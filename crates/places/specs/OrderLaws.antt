@@ -12,9 +12,9 @@ use borrow.Author.Tests.{eqb-true, eq-eqb, leb-true, le-leb, lt-leb}
 use Rattle.laws.specs.Carried.{carried, Holds}
 use Rattle.laws.specs.Each.{eachB, EachFrom, each-true, true-each, each-turn, each-stop, each-done}
 use Rattle.laws.specs.Limit.{limit}
-use Rattle.laws.specs.Run.{Out, none, live, plus, run}
+use Rattle.laws.specs.Run.{Outcome, none, live, plus, run, ended}
 use Rattle.laws.specs.Sizes.{abs-add}
-use Rattle.laws.specs.Still.{Ends, ended, from-zero}
+use Rattle.laws.specs.Still.{Ends, from-zero}
 use Rattle.laws.specs.Tests.{both, either}
 use Rattle.weights.specs.Weights.{perByte}
 use Rattle.big5.specs.Big5 as big5
@@ -26,7 +26,7 @@ use Rattle.utf8.specs.Utf8 as utf-8
 use Rattle.records.specs.Fresh.{freshB}
 use Rattle.records.specs.FreshLaws.{fresh-true, true-fresh}
 use Rattle.kinds.specs.KindLaws.{Alike, fresh-alike, alike-kind, alike-reach, reach-open, run-alike, close-alike}
-use Rattle.kinds.specs.Kinds.{Outcome, kindOf, freshIn, stepOf, closeOf, WeighedIn}
+use Rattle.kinds.specs.Kinds.{kindOf, freshIn, stepOf, closeOf, WeighedIn}
 use Rattle.kinds.specs.KindsLaws.{utf-8-still, iso2022jp-still}
 use Rattle.kinds.specs.Sound.{takesSpace, reachOf, SoundFor, soundB}
 use Rattle.kinds.specs.SoundLaws.{sound-true, true-sound, sound-more, fresh-sound, run-sound, close-sound}
@@ -150,14 +150,14 @@ unfolding reachOf
 reach-most m n closed = either (λ (k : ℕ). k ≤ n + 1) (closed && takesSpace m) (λ e. omega arith) (λ e. omega arith)
 
 -- a live outcome's score is at most c in size
-abbrev pub SmallOut : ℕ → Outcome → Type 0
+abbrev pub SmallOut : ℕ → Outcome Machine → Type 0
 SmallOut c (none d) = Unit {0}
 SmallOut c (live m g) = natAbs g ≤ c
 
 -- a machine of the same kind with what it can hold and its score, or none
 module _ (n k : ℕ) (closed : Bool) (m : Machine) (kind : kindOf m ≡ k) where
   -- an outcome's place is in order: its machine is of the kind, holds what it can, and its score is within bounds
-  pub placed : (o : Outcome) → Holds (Alike m) o → Holds (SoundFor n (reachOf m n closed)) o → SmallOut (perByte * reachOf m n closed) o → PlaceFor n closed true k (placeAs m o)
+  pub placed : (o : Outcome Machine) → Holds (Alike m) o → Holds (SoundFor n (reachOf m n closed)) o → SmallOut (perByte * reachOf m n closed) o → PlaceFor n closed true k (placeAs m o)
   unfolding placeAs
   placed (none d) a s q =
       let e = fresh-alike m in
@@ -167,17 +167,17 @@ module _ (n k : ℕ) (closed : Bool) (m : Machine) (kind : kindOf m ≡ k) where
       record { kind = alike-kind m x a ∙ kind; sound = rw e s; scored = rw e q; fed-or = tt }
 
 -- ---- a part of a chunk
-plus-small : (c d : ℕ) (s : ℤ) (o : Outcome) → natAbs s ≤ c → SmallOut d o → SmallOut (c + d) (plus s o)
+plus-small : (c d : ℕ) (s : ℤ) (o : Outcome Machine) → natAbs s ≤ c → SmallOut d o → SmallOut (c + d) (plus s o)
 unfolding plus
 plus-small c d s (none x) h q = tt
 plus-small c d s (live m g) h q = omega (arith, abs-add s g)
 
-plus-holds : (P : Machine → Type 0) (s : ℤ) (o : Outcome) → Holds P o → Holds P (plus s o)
+plus-holds : (P : Machine → Type 0) (s : ℤ) (o : Outcome Machine) → Holds P o → Holds P (plus s o)
 unfolding plus
 plus-holds P s (none d) h = tt
 plus-holds P s (live m g) h = h
 
-small-more : (c d : ℕ) (o : Outcome) → c ≤ d → SmallOut c o → SmallOut d o
+small-more : (c d : ℕ) (o : Outcome Machine) → c ≤ d → SmallOut c o → SmallOut d o
 small-more c d (none x) h q = tt
 small-more c d (live m g) h q = omega (arith, q)
 
@@ -187,7 +187,7 @@ pub record Ran (t : Tables) (xs : List ℕ) (m : Machine) : Type 0 where
   pub weighed : Holds (λ (x : Machine). WeighedIn m (t .weights)) (run (stepOf t) (live m (pos 0)) xs)
 
 module _ (t : Tables) (xs : List ℕ) (m : Machine) (ran : Ran t xs m) where
-  sound-at : (n : ℕ) (o : Outcome) → o ≡ run (stepOf t) (live m (pos 0)) xs → Holds (λ (x : Machine). WeighedIn m (t .weights)) o → SoundFor n n m → Holds (SoundFor (n + length xs) (n + length xs)) o
+  sound-at : (n : ℕ) (o : Outcome Machine) → o ≡ run (stepOf t) (live m (pos 0)) xs → Holds (λ (x : Machine). WeighedIn m (t .weights)) o → SoundFor n n m → Holds (SoundFor (n + length xs) (n + length xs)) o
   sound-at n (none d) e w h = tt
   sound-at n (live x g) e w h = rw (sym e) at (run-sound t n xs m w h)
 
@@ -204,7 +204,7 @@ module _ (t : Tables) (xs : List ℕ) (m : Machine) (ran : Ran t xs m) where
       (placed (n + length xs) k false m kind (plus s (run (stepOf t) (live m (pos 0)) xs)) (plus-holds (Alike m) s o (run-alike t m (pos 0) xs)) (rw e (plus-holds (SoundFor (n + length xs) (n + length xs)) s o (ran-sound n sound))) (small-more (perByte * n + perByte * length xs) (perByte * reachOf m (n + length xs) false) (plus s o) q (plus-small (perByte * n) (perByte * length xs) s o small (ran .small))))
 
 -- ---- the end of the stream
-ends-small : {S : Type 0} (P : S → Type 0) (wrap : S → Machine) (o : Out (Unit {0}) S) → Ends P (pos 0) o → SmallOut 0 (carried wrap o)
+ends-small : {S : Type 0} (P : S → Type 0) (wrap : S → Machine) (o : Outcome S) → Ends P (pos 0) o → SmallOut 0 (carried wrap o)
 unfolding carried
 ends-small P wrap (none d) h = tt
 ends-small P wrap (live m g) h = rw (h .1) (omega arith)

@@ -3,9 +3,8 @@ use mathlib.Core.Bool.{Bool, cond}
 use mathlib.Core.List.{List}
 use Prim.Native.Nat.{ℕ}
 use lib.IntN.{ℤ}
-use Rattle.laws.specs.Run.{none, live, run}
-use Rattle.laws.specs.Still.{ended}
-use Rattle.kinds.specs.Kinds.{Outcome, freshIn, stepOf, closeOf}
+use Rattle.laws.specs.Run.{Outcome, none, live, run, ended}
+use Rattle.kinds.specs.Kinds.{freshIn, stepOf, closeOf}
 use Rattle.lengths.specs.Tables.{Tables}
 use Rattle.kinds.specs.declared.machine.Machine.{Machine}
 use Rattle.places.specs.declared.place.Place.{Place}
@@ -16,12 +15,12 @@ abbrev pub place : Machine → Score → Place
 place m s = record { machine = m; score = s }
 
 -- the machine and the score of an outcome; none leaves the fresh machine of the kind
-unfoldable pub placeAs : Machine → Outcome → Place
+unfoldable pub placeAs : Machine → Outcome Machine → Place
 placeAs m (none d) = place (freshIn m) None
 placeAs m (live n s) = place n (Live s)
 
 -- ---- a part of a chunk, which is the last one or not
-abbrev pub partOf : Tables → Bool → List ℕ → Machine → ℤ → Outcome
+abbrev pub partOf : Tables → Bool → List ℕ → Machine → ℤ → Outcome Machine
 partOf t last xs m s =
     let o = run (stepOf t) (live m s) xs in
     cond last (ended (closeOf (t .singles) (t .weights)) o) o

@@ -9,12 +9,12 @@ use lib.IntN.{ℤ, pos, natAbs, _+ℤ_}
 use lib.ListN.{length}
 use Rattle.laws.specs.Carried.{Holds}
 use Rattle.laws.specs.Limit.{limit}
-use Rattle.laws.specs.Run.{Out, none, live, plus, run}
+use Rattle.laws.specs.Run.{Outcome, none, live, plus, run, ended}
 use Rattle.laws.specs.Sizes.{abs-add}
-use Rattle.laws.specs.Still.{ended, from-zero}
+use Rattle.laws.specs.Still.{from-zero}
 use Rattle.weights.specs.Weights.{perByte}
 use Rattle.kinds.specs.KindLaws.{Alike, reach-open, run-alike}
-use Rattle.kinds.specs.Kinds.{Outcome, kindOf, freshIn, stepOf, closeOf, ranAs, ranOf, closedOf, Small, WeighedIn, Weighed}
+use Rattle.kinds.specs.Kinds.{kindOf, freshIn, stepOf, closeOf, ranAs, ranOf, closedOf, Small, WeighedIn, Weighed}
 use Rattle.kinds.specs.KindsLaws.{ran-fit, closed-fit}
 use Rattle.kinds.specs.Sound.{reachOf, SoundFor}
 use Rattle.kinds.specs.SoundLaws.{sound-more, fresh-sound}
@@ -32,7 +32,7 @@ use Rattle.places.specs.declared.place.Score.{Score}
 use Rattle.places.specs.declared.place.Score.the-variants.{None, Live}
 
 -- ---- what is settled is the outcome's place
-pub settled-as : (p : Place) (s : ℤ) (o : Outcome) → settledOf p s (ranAs o) ≡ placeAs (p .machine) (plus s o)
+pub settled-as : (p : Place) (s : ℤ) (o : Outcome Machine) → settledOf p s (ranAs o) ≡ placeAs (p .machine) (plus s o)
 unfolding settledOf ranAs placeAs plus
 settled-as p s (none d) = refl
 settled-as p s (live m g) = refl
@@ -49,12 +49,12 @@ module _ (t : Tables) (xs : List ℕ) (p : Place) where
     feed-open = rw e
 
     -- closing what is settled is closing the outcome, since a machine stays of its kind
-    end-of : (o : Outcome) → Holds (Alike (p .machine)) o → endOf (t .singles) (t .weights) (placeAs (p .machine) o) ≡ placeAs (p .machine) (ended (closeOf (t .singles) (t .weights)) o)
+    end-of : (o : Outcome Machine) → Holds (Alike (p .machine)) o → endOf (t .singles) (t .weights) (placeAs (p .machine) o) ≡ placeAs (p .machine) (ended (closeOf (t .singles) (t .weights)) o)
     unfolding placeAs endFrom ended
     end-of (none d) a = refl
     end-of (live n g) a = same (plus g (closeOf (t .singles) (t .weights) n))
       where
-        same : (o : Outcome) → placeAs n o ≡ placeAs (p .machine) o
+        same : (o : Outcome Machine) → placeAs n o ≡ placeAs (p .machine) o
         same (none d) = ap (λ (m : Machine). place m None) a
         same (live m k) = refl
 
@@ -90,12 +90,12 @@ fit-sum s ran.Dropped c h l = tt
 fit-sum s ran.Unfit c h l = tt
 
 -- ---- what the code's answers say of outcomes
-pub small-out : (c : ℕ) (o : Outcome) → Small c (ranAs o) → SmallOut c o
+pub small-out : (c : ℕ) (o : Outcome Machine) → Small c (ranAs o) → SmallOut c o
 unfolding ranAs
 small-out c (none d) h = tt
 small-out c (live m g) h = h
 
-weighed-out : (m : Machine) (w : List ℤ) (o : Outcome) → Weighed m w (ranAs o) → Holds (λ (x : Machine). WeighedIn m w) o
+weighed-out : (m : Machine) (w : List ℤ) (o : Outcome Machine) → Weighed m w (ranAs o) → Holds (λ (x : Machine). WeighedIn m w) o
 unfolding ranAs
 weighed-out m w (none d) h = tt
 weighed-out m w (live n g) h = h
@@ -108,7 +108,7 @@ module _ (t : Tables) (xs : List ℕ) (m : Machine) where
 
 -- ---- a part, after which the place is fit for its end
 module _ (t : Tables) (sized : Sized t) (xs : List ℕ) (short : length xs ≤ limit) (p : Place) (s : ℤ) (ran : Ran t xs (p .machine)) (sound : SoundFor limit limit (p .machine)) (small : natAbs s ≤ perByte * limit) where
-  fit-at : (o : Outcome) → Holds (SoundFor (limit + length xs) (limit + length xs)) o → SmallOut (perByte * length xs) o → FitEnd (t .singles) (t .weights) (placeAs (p .machine) (plus s o))
+  fit-at : (o : Outcome Machine) → Holds (SoundFor (limit + length xs) (limit + length xs)) o → SmallOut (perByte * length xs) o → FitEnd (t .singles) (t .weights) (placeAs (p .machine) (plus s o))
   unfolding placeAs plus
   fit-at (none d) h q = record { closes = closed-fit t sized (freshIn (p .machine)) (fresh-sound (2 * limit) (2 * limit) (p .machine)); small = tt }
   fit-at (live m g) h q =

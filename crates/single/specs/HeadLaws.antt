@@ -10,7 +10,7 @@ use lib.IntN.{ℤ, pos}
 use borrow.Author.Tests.{eqb-false, not-true}
 use Rattle.laws.specs.Lists.{last}
 use Rattle.laws.specs.Memory.{all, Quiet, after, quiet-run, quiet-last}
-use Rattle.laws.specs.Run.{Out, live, run}
+use Rattle.laws.specs.Run.{Outcome, live, run}
 use Rattle.laws.specs.Tests.{both}
 use Rattle.octets.specs.Octets.{ascii}
 use Rattle.single.specs.Class.{classOf, alphabetic}
@@ -59,11 +59,11 @@ pub fresh-still : Still true 0 0
 fresh-still = record { prev-ascii = refl; no-word = refl; no-longest = refl }
 
 -- a run over quiet bytes from fresh: it is the run over the last two, and lives with the score it had
-pub record Forgets {S : Type 0} (step : S → ℕ → Out (Unit {0}) S) (fresh : S) (t : Lent) : Type 0 where
+pub record Forgets {S : Type 0} (step : S → ℕ → Outcome S) (fresh : S) (t : Lent) : Type 0 where
   pub last-two : (s : ℤ) (bs : List ℕ) → all (quietAt t) bs ≡ true → run step (live fresh s) bs ≡ run step (live fresh s) (last 2 bs)
   pub lives : (bs : List ℕ) → all (quietAt t) bs ≡ true → (m : S) × ((s : ℤ) → run step (live fresh s) bs ≡ live m s)
 
-pub forgets : {S : Type 0} (step : S → ℕ → Out (Unit {0}) S) (next : S → ℕ → S) (I : S → Type 0) (t : Lent) → Quiet step next I (quietAt t) → (fresh : S) → I fresh → Forgets step fresh t
+pub forgets : {S : Type 0} (step : S → ℕ → Outcome S) (next : S → ℕ → S) (I : S → Type 0) (t : Lent) → Quiet step next I (quietAt t) → (fresh : S) → I fresh → Forgets step fresh t
 forgets step next I t quiet fresh i =
     record {
       last-two = λ s bs e. quiet-last step next I (quietAt t) quiet fresh s bs i e;

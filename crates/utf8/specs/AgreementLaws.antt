@@ -9,8 +9,7 @@ use lib.Dec.{eqb}
 use borrow.Author.Tests.{ne-eqb, eqb-true, eqb-false}
 use Rattle.laws.specs.Tests.{either, through}
 use Rattle.laws.specs.Validator.{end-of-queue, byte, Result, continue, code-point, error, after, at-start, on, outcomeBy, decoded, decodes}
-use Rattle.laws.specs.Run.{run}
-use Rattle.laws.specs.Still.{ended}
+use Rattle.laws.specs.Run.{run, ended}
 use Rattle.octets.specs.Octets.{between}
 use Rattle.utf8.specs.declared.Utf8.{Utf8}
 use Rattle.utf8.specs.Standard.{Decoder, variables, initial, handler, Reached}

@@ -6,7 +6,7 @@ use lib.Dec.{eqb, leb}
 use lib.IntN.{pos}
 use lib.ListN.{length}
 use Rattle.laws.specs.Limit.{limit}
-use Rattle.laws.specs.Run.{Out, none, live, run}
+use Rattle.laws.specs.Run.{dropout, Outcome, none, live, run}
 use Rattle.octets.specs.Octets.{between}
 use Rattle.utf8.specs.declared.Utf8.{Utf8}
 use Rattle.utf8.specs.declared.Stepped.{Stepped}
@@ -16,7 +16,7 @@ use Rattle.utf8.specs.declared.Ran.the-variants.{Live, Dropped, Unfit}
 
 -- nothing is carried by a machine that dropped out
 abbrev pub Outcome : Type 0
-Outcome = Out (Unit {0}) Utf8
+Outcome = Outcome Utf8
 
 -- ---- records
 -- n bytes are needed, the next of them from lo to hi
@@ -51,7 +51,7 @@ abbrev pub alive : Utf8 → Outcome
 alive m = live m (pos 0)
 
 abbrev pub dropped : Outcome
-dropped = none tt
+dropped = none dropout
 
 -- a byte where a sequence begins
 unfoldable pub leadOf : ℕ → Outcome

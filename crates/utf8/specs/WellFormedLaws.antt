@@ -10,8 +10,8 @@ use lib.Dec.{T, eqb, ltb, leb, eqb→eq, leb→le}
 use lib.IntN.{ℤ, pos, negsuc, +ℤ-idr}
 use lib.ListN.{length}
 use borrow.Author.Tests.{ltb-true, ltb-false}
-use Rattle.laws.specs.Run.{none, live, plus, run, run-append, run-nil}
-use Rattle.laws.specs.Still.{Lives, lives, lives-begun, from-zero, run-first, run-drops, none-live, plus-live, ended, ended-live}
+use Rattle.laws.specs.Run.{none, live, plus, run, run-append, run-nil, ended}
+use Rattle.laws.specs.Still.{Lives, lives, lives-begun, from-zero, run-first, run-drops, none-live, plus-live, ended-live}
 use Rattle.laws.specs.Validator.{decoded}
 use Rattle.laws.specs.Table.{and-left, and-right, every, nothing, within}
 use Rattle.octets.specs.Octets.{between}

@@ -5,7 +5,7 @@ use Prim.Native.Nat.{ℕ, _≤_}
 use lib.Dec.{leb}
 use lib.IntN.{ℤ, pos, natAbs}
 use lib.ListN.{length}
-use Rattle.laws.specs.Run.{Out, none, live, run}
+use Rattle.laws.specs.Run.{Outcome, none, live, run}
 use Rattle.octets.specs.Octets.{ascii}
 use Rattle.single.specs.Class.{caselessOf, alphabetic, unless255, space}
 use Rattle.laws.specs.Limit.{room}
@@ -41,11 +41,11 @@ module _ (t : Lent) where
         «longest_word» = longestOf (m .«current_word_len») (m .«longest_word») (alphabetic t b);
       }
 
-  unfoldable pub stepOf : Visual → ℕ → Out (Unit {0}) Visual
+  unfoldable pub stepOf : Visual → ℕ → Outcome Visual
   stepOf m b = unless255 t b (live (nextOf m b) (gainOf t (m .prev) (m .«prev_ascii») b))
 
   -- the end of the stream is a space
-  abbrev pub closeOf : Visual → Out (Unit {0}) Visual
+  abbrev pub closeOf : Visual → Outcome Visual
   closeOf m = stepOf m space
 
 -- what n bytes can have led to
@@ -57,7 +57,7 @@ abbrev pub soundB : ℕ → Visual → Bool
 soundB n m = leb (m .«plausible_punctuation») n && commonB n (m .prev) (m .«current_word_len») (m .«longest_word»)
 
 -- ---- the answers
-abbrev pub ranAs : Out (Unit {0}) Visual → Ran
+abbrev pub ranAs : Outcome Visual → Ran
 ranAs (none d) = Dropped
 ranAs (live m s) = Live m s
 
