@@ -9,8 +9,8 @@ use lib.ListN.{length}
 use Rattle.laws.specs.Run.{dropout, Outcome, none, live, run}
 use Rattle.pairs.specs.Pairs.{isLeadOrNone, releasedOf, smallHeldB}
 use Rattle.laws.specs.Limit.{limit}
-use Rattle.weights.specs.Weights.{weightCount, term}
-use Rattle.big5_decoder.specs.Standard.{entries}
+use Rattle.weights.specs.Weights.{term}
+use Rattle.lengths.specs.Lengths.{weightCount, big5Count}
 use Rattle.big5.specs.Scoring.{lent, scaleOf, stepOf}
 use Rattle.big5.specs.declared.Big5.{Big5}
 use Rattle.big5.specs.declared.Scale.{Scale}
@@ -61,12 +61,12 @@ Weighed weights Unfit = Unit {0}
 -- ---- a run and a close
 -- the record is one that Big5 can hold, the part no longer than a stream, the lent lengths exact
 unfoldable pub readyB : List ℕ → List ℤ → Big5 → List ℕ → Bool
-readyB index weights m xs = soundB limit m && (leb (length xs) limit && (eqb (length index) entries && eqb (length weights) weightCount))
+readyB index weights m xs = soundB limit m && (leb (length xs) limit && (eqb (length index) big5Count && eqb (length weights) weightCount))
 
 pub record Ready (index : List ℕ) (weights : List ℤ) (m : Big5) (xs : List ℕ) : Type 0 where
   pub sound : Sound limit m
   pub short : length xs ≤ limit
-  pub index-length : length index ≡ entries
+  pub index-length : length index ≡ big5Count
   pub weights-length : length weights ≡ weightCount
 
 -- the score starts from 0: what a run gives is its change

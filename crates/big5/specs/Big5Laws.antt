@@ -18,8 +18,9 @@ use Rattle.pairs.specs.declared.Event.{Event}
 use Rattle.pairs.specs.declared.Event.the-variants.{Pending, Point, Two, Error}
 use Rattle.pairs.specs.declared.Held.the-variants.{Nothing, Score}
 use Rattle.laws.specs.Limit.{limit}
-use Rattle.weights.specs.Weights.{weightCount, term, perByte}
-use Rattle.big5_decoder.specs.Standard.{entries, pairOf, decodeOf}
+use Rattle.weights.specs.Weights.{term, perByte}
+use Rattle.lengths.specs.Lengths.{weightCount, big5Count}
+use Rattle.big5_decoder.specs.Standard.{pairOf, decodeOf}
 use Rattle.big5.specs.Scoring.{scaleOf, isHanzi, isDistinct, besideOf, besideHanzi, scored, holdsOf, hanziWeight, letterOf, hanziOf, otherOf, unitOf, pointOf, unmappedOf, extensionOf, isPair, extends, after, strayOf, errorOf, onEvent, Lent, lent, stepOf}
 use Rattle.big5.specs.Big5.{Sound, soundB, Small, ranAs, Weighed, readyB, Ready, ranOf}
 use Rattle.big5.specs.Ways.{beside-small, hanzi-small}
@@ -48,9 +49,9 @@ module _ (index : List ℕ) (weights : List ℤ) (m : Big5) (xs : List ℕ) wher
   pub ready-true : readyB index weights m xs ≡ true → Ready index weights m xs
   unfolding readyB
   ready-true e =
-      let a = both (soundB limit m) (leb (length xs) limit && (eqb (length index) entries && eqb (length weights) weightCount)) e in
-      let b = both (leb (length xs) limit) (eqb (length index) entries && eqb (length weights) weightCount) (a .1) in
-      let c = both (eqb (length index) entries) (eqb (length weights) weightCount) (b .1) in
+      let a = both (soundB limit m) (leb (length xs) limit && (eqb (length index) big5Count && eqb (length weights) weightCount)) e in
+      let b = both (leb (length xs) limit) (eqb (length index) big5Count && eqb (length weights) weightCount) (a .1) in
+      let c = both (eqb (length index) big5Count) (eqb (length weights) weightCount) (b .1) in
       record { sound = sound-true limit m (a .0); short = leb-true _ _ (b .0); index-length = eqb-true _ _ (c .0); weights-length = eqb-true _ _ (c .1) }
 
   pub true-ready : Ready index weights m xs → readyB index weights m xs ≡ true

@@ -7,8 +7,8 @@ ghost use lib.ListN.{length, getD};
 ghost use Rattle.laws.specs.Run.{live, run};
 ghost use Rattle.pairs.specs.Pairs.{isLeadOrNone, SmallHeld};
 ghost use Rattle.laws.specs.Limit.{limit};
-ghost use Rattle.weights.specs.Weights.{term, perByte, weightCount};
-ghost use Rattle.big5_decoder.specs.Standard.{entries};
+ghost use Rattle.weights.specs.Weights.{term, perByte};
+ghost use Rattle.lengths.specs.Lengths.{weightCount, big5Count};
 ghost use Rattle.big5.specs.Scoring.{scaleOf, isHanzi, isDistinct, besideOf, holdsOf, hanziWeight, letterOf, hanziOf, otherOf, unitOf, pointOf, unmappedOf, extensionOf, isPair, isExtension, after as afterOf, strayOf, errorOf, onEvent, lent, freshOf, stepOf, scored};
 ghost use Rattle.big5.specs.Big5.{Sound, soundB, Small, outOf, ranAs, Bounded, Weighed, readyB, Ready, ranOf, closedOf};
 use pairs::Event;
@@ -126,12 +126,6 @@ impl Scale {
 }
 
 impl Big5 {
-    // How many entries its index has.
-    pub const INDEX: usize = big5_decoder::INDEX;
-
-    // How many bytes a part has at most.
-    pub const LIMIT: usize = 268435456;
-
     pub fn fresh() -> Big5
         ensures { λ r. ⌜ r ≡ freshOf ⌝ }
     {
@@ -370,7 +364,7 @@ impl Big5 {
     fn step(self, b: u8, index: &[u32], w: Scale) -> Stepped
         requires { ⌜ Small w ⌝ }
         requires { ⌜ Sound limit self ⌝ }
-        requires { ⌜ length (now index) ≡ entries ⌝ }
+        requires { ⌜ length (now index) ≡ big5Count ⌝ }
         ensures { λ r. ⌜ outOf r ≡ stepOf (lent (now (index .entry)) w) self b ⌝ }
     {
         let d = big5_decoder::decode(self.lead, b, index);
@@ -404,7 +398,7 @@ impl Big5 {
         requires { ⌜ Small w ⌝ }
         requires { ⌜ Sound limit self ⌝ }
         requires { ⌜ length (now part) ≤ limit ⌝ }
-        requires { ⌜ length (now index) ≡ entries ⌝ }
+        requires { ⌜ length (now index) ≡ big5Count ⌝ }
         ensures { λ r. ⌜ r ≡ ranAs (run (stepOf (lent (now (index .entry)) w)) (live self (pos 0)) (now (part .entry))) ⌝ }
         ensures { λ r. ⌜ Bounded (perByte * length (now (part .entry))) r ⌝ }
     {
@@ -452,7 +446,7 @@ impl Big5 {
     pub fn close(self) -> Ran
         ensures { λ r. ⌜ r ≡ closedOf self ⌝ }
     {
-        if self.is_sound_for(268435456) {
+        if self.is_sound_for(lengths::LIMIT) {
             if self.lead == 0 {
                 return Ran::Live(self, 0);
             }
@@ -466,10 +460,10 @@ impl Big5 {
 fn is_ready(m: Big5, part: &[u8], index: &[u32], weights: &[i32]) -> bool
     ensures { λ r. ⌜ r ≡ readyB (now (index .entry)) (now (weights .entry)) m (now (part .entry)) ⌝ }
 {
-    if m.is_sound_for(268435456) {
-        if part.len() <= Big5::LIMIT {
-            if index.len() == Big5::INDEX {
-                return weights.len() == weights::COUNT;
+    if m.is_sound_for(lengths::LIMIT) {
+        if part.len() <= lengths::MOST {
+            if index.len() == lengths::BIG5 {
+                return weights.len() == lengths::WEIGHTS;
             }
         }
     }

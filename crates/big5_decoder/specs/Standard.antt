@@ -5,15 +5,13 @@ use Prim.Native.Nat.{ℕ, _+_, _-_, _*_}
 use lib.Dec.{ltb, eqb}
 use lib.ListN.{length, getD}
 use Rattle.octets.specs.Octets.{between}
+use Rattle.lengths.specs.Lengths.{big5Count}
 use Rattle.pairs.specs.Pairs.{isLeadOrNone, malformedOf, handlerOf}
 use Rattle.pairs.specs.declared.Decoded.{Decoded}
 use Rattle.pairs.specs.declared.Event.{Event}
 use Rattle.pairs.specs.declared.Reply.{Reply}
 use Rattle.pairs.specs.declared.Reply.the-variants.{Byte, Unfit}
 use Rattle.pairs.specs.declared.Event.the-variants.{Point, Two}
-
-abbrev pub entries : ℕ
-entries = 19782
 
 abbrev pub isTrail : ℕ → Bool
 isTrail b = between 0x40 0x7E b || between 0xA1 0xFE b
@@ -51,4 +49,4 @@ module _ (index : List ℕ) where
 
   -- the decoder alone answers every lead, byte and index: only a lead that it can hold, or 0, and an index of the exact length are fit
   unfoldable pub replyOf : ℕ → ℕ → Reply
-  replyOf lead b = cond (isLeadOrNone lead && eqb (length index) entries) (Byte (decodeOf lead b)) Unfit
+  replyOf lead b = cond (isLeadOrNone lead && eqb (length index) big5Count) (Byte (decodeOf lead b)) Unfit

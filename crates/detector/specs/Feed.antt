@@ -5,7 +5,7 @@ use Prim.Native.Nat.{ℕ, _+_}
 use lib.Dec.{ltb}
 use lib.ListN.{length}
 use Rattle.laws.specs.Limit.{limit}
-use Rattle.lengths.specs.Tables.{Tables, sizedB}
+use Rattle.tables.specs.Tables.{Tables, sizedB}
 use Rattle.places.specs.Slate.{feedAll}
 use Rattle.places.specs.declared.place.Place.{Place}
 use Rattle.state.specs.State.{flagOf}

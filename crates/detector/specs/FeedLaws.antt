@@ -14,8 +14,8 @@ use Rattle.context.specs.Context.{bytesOf}
 use Rattle.context.specs.ContextLaws.{bytes-most}
 use Rattle.context.specs.declared.Context.{Context}
 use Rattle.context.specs.Head.{nonAsciiCount}
-use Rattle.lengths.specs.Tables.{Tables, Sized, sizedB}
-use Rattle.lengths.specs.TablesLaws.{sized-true}
+use Rattle.tables.specs.Tables.{Tables, Sized, sizedB}
+use Rattle.tables.specs.TablesLaws.{sized-true}
 use Rattle.places.specs.Order.{SlateFor}
 use Rattle.places.specs.Slate.{feedAll, slated, slatedOf}
 use Rattle.places.specs.Kept.{AllKept, KeptIf}

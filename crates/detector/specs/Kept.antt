@@ -5,7 +5,7 @@ use mathlib.Core.List.{List}
 use Prim.Native.Nat.{ℕ, _+_, _≤_}
 use lib.ListN.{length}
 use Rattle.laws.specs.Limit.{limit}
-use Rattle.lengths.specs.Tables.{Tables, Sized}
+use Rattle.tables.specs.Tables.{Tables, Sized}
 use Rattle.state.specs.Order.{InOrder}
 use Rattle.state.specs.declared.reply.Reply.{Reply}
 use Rattle.state.specs.declared.reply.Reply.the-variants.{Accepted, Closed, WrongLength, TooLong, NotInOrder}

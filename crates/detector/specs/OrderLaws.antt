@@ -19,7 +19,7 @@ use Rattle.context.specs.HeadLaws.{FirstAt}
 use Rattle.context.specs.declared.Context.{Context}
 use Rattle.context.specs.declared.Scanned.{Scanned}
 use Rattle.context.specs.declared.Scanned.the-variants as scanned
-use Rattle.lengths.specs.Tables.{Tables}
+use Rattle.tables.specs.Tables.{Tables}
 use Rattle.places.specs.Order.{SlateFor}
 use Rattle.places.specs.Slate.{feedAll}
 use Rattle.places.specs.Kept.{AllKept}

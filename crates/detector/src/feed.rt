@@ -4,17 +4,17 @@ ghost use mathlib.Core.Path.{_≡_};
 ghost use Prim.Native.Nat.{_+_, _≤_};
 ghost use lib.ListN.{length};
 ghost use Rattle.laws.specs.Limit.{limit};
-ghost use Rattle.lengths.specs.Tables.{single, singles, tables};
+ghost use Rattle.tables.specs.Tables.{single, singles, tables};
 ghost use Rattle.state.specs.Order.{InOrder};
 ghost use Rattle.detector.specs.Feed.{verdictOf, accepted, advanceOf, feedOf};
 ghost use Rattle.detector.specs.Kept.{Fit, StaysIn};
 use crate::front;
 use crate::front::Due;
-use lengths;
 use places::order;
 use places::slate;
 use state::State;
 use state::reply::Reply;
+use tables;
 
 pub struct Fed {
     pub state: State,
@@ -42,7 +42,7 @@ fn judged(state: State, sized: bool, bytes: usize) -> Verdict
     if !sized {
         return Verdict::Refuse(Reply::WrongLength(flag));
     }
-    if order::LIMIT - front.bytes < bytes as u64 {
+    if lengths::LIMIT - front.bytes < bytes as u64 {
         return Verdict::Refuse(Reply::TooLong(flag));
     }
     Verdict::Accept
@@ -206,7 +206,7 @@ pub fn feed(
     ensures { λ r. ⌜ r ≡ feedOf (tables (singles (single (now (classes4 .entry)) (now (marks4 .entry)) (now (pairs4 .entry))) (single (now (classes5 .entry)) (now (marks5 .entry)) (now (pairs5 .entry))) (single (now (classes6 .entry)) (now (marks6 .entry)) (now (pairs6 .entry))) (single (now (classes7 .entry)) (now (marks7 .entry)) (now (pairs7 .entry)))) (now (big5 .entry)) (now (euckr .entry)) (now (jis .entry)) (now (extras .entry)) (now (weights .entry))) state (now (chunk .entry)) last ⌝ }
     ensures { λ r. ⌜ StaysIn (r .reply) (r .state) ⌝ }
 {
-    let sized = lengths::are_sized(
+    let sized = tables::are_sized(
         classes4,
         marks4,
         pairs4,

@@ -15,7 +15,7 @@ use Rattle.big5.specs.Scoring as big5
 use Rattle.big5.specs.declared.LatinCj.the-variants.{Cj, Other}
 use Rattle.euckr.specs.Edges.{Word}
 use Rattle.euckr.specs.declared.EucKr.{EucKr as EucKrRecord}
-use Rattle.lengths.specs.Tables.{Tables, tables}
+use Rattle.tables.specs.Tables.{Tables, tables}
 use Rattle.kinds.specs.declared.machine.Machine.the-variants.{Utf8, Iso2022Jp, EucKr, Big5}
 use Rattle.places.specs.Place.{place}
 use Rattle.places.specs.Slate.{takenOf, feedAll}

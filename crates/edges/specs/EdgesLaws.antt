@@ -39,8 +39,8 @@ use Rattle.euckr.specs.Scoring as euckr
 use Rattle.euckr.specs.declared.EucKr.{EucKr as EucKrRecord}
 use Rattle.kinds.specs.Kinds.{freshIn, stepOf}
 use Rattle.kinds.specs.KindsLaws.{run-utf-8, run-iso2022jp, run-big5, run-euckr}
-use Rattle.lengths.specs.Tables.{Tables, Sized, sizedB}
-use Rattle.lengths.specs.TablesLaws.{lengths-of, true-sized}
+use Rattle.tables.specs.Tables.{Tables, Sized, sizedB}
+use Rattle.tables.specs.TablesLaws.{lengths-of, true-sized}
 use Rattle.kinds.specs.declared.machine.Machine.{Machine}
 use Rattle.kinds.specs.declared.machine.Machine.the-variants.{Utf8, Iso2022Jp, EucKr, Big5}
 use Rattle.places.specs.Place.{place, placeAs, feedOf as feedPlace}

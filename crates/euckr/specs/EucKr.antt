@@ -9,9 +9,9 @@ use lib.ListN.{length}
 use Rattle.laws.specs.Run.{dropout, Outcome, none, live, run}
 use Rattle.pairs.specs.Pairs.{isLeadOrNone, releasedOf, smallHeldB}
 use Rattle.laws.specs.Limit.{limit, room}
-use Rattle.weights.specs.Weights.{weightCount, term, perByte}
-use Rattle.euckr_decoder.specs.Standard.{entries}
-use Rattle.euckr.specs.Scoring.{extraCount, lent, scaleOf, stepOf}
+use Rattle.weights.specs.Weights.{term, perByte}
+use Rattle.lengths.specs.Lengths.{weightCount, eucKrCount, extraCount}
+use Rattle.euckr.specs.Scoring.{lent, scaleOf, stepOf}
 use Rattle.euckr.specs.declared.EucKr.{EucKr}
 use Rattle.euckr.specs.declared.Scale.{Scale}
 use Rattle.euckr.specs.declared.Stepped.{Stepped}
@@ -69,7 +69,7 @@ Weighed weights Unfit = Unit {0}
 
 -- ---- a run and a close
 abbrev pub lentB : List ℕ → List ℤ → List ℤ → Bool
-lentB index extras weights = eqb (length index) entries && (eqb (length extras) extraCount && eqb (length weights) weightCount)
+lentB index extras weights = eqb (length index) eucKrCount && (eqb (length extras) extraCount && eqb (length weights) weightCount)
 
 -- the record is one that EUC-KR can hold, the part no longer than a stream, the lent lengths exact
 unfoldable pub readyB : List ℕ → List ℤ → List ℤ → EucKr → List ℕ → Bool
@@ -78,7 +78,7 @@ readyB index extras weights m xs = soundB room m && (leb (length xs) limit && le
 pub record Ready (index : List ℕ) (extras weights : List ℤ) (m : EucKr) (xs : List ℕ) : Type 0 where
   pub sound : Sound room m
   pub short : length xs ≤ limit
-  pub index-length : length index ≡ entries
+  pub index-length : length index ≡ eucKrCount
   pub extras-length : length extras ≡ extraCount
   pub weights-length : length weights ≡ weightCount
 

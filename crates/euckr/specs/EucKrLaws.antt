@@ -18,9 +18,10 @@ use Rattle.pairs.specs.declared.Event.{Event}
 use Rattle.pairs.specs.declared.Event.the-variants.{Pending, Point, Two, Error}
 use Rattle.pairs.specs.declared.Held.the-variants.{Nothing, Score}
 use Rattle.laws.specs.Limit.{limit, room}
-use Rattle.weights.specs.Weights.{weightCount, term, perByte}
-use Rattle.euckr_decoder.specs.Standard.{entries, pairOf, decodeOf}
-use Rattle.euckr.specs.Scoring.{scaleOf, extraCount, extraOf, isEuc, isHangul, isHanja, scored, holdsOf, letterOf, aroundOf, innerOf, outerOf, hangulOf, hanjaOf, otherOf, unitOf, isUserPair, isMacSymbol, isLone, extends, extensionOf, after, strayOf, errorOf, onEvent, Lent, lent, stepOf}
+use Rattle.weights.specs.Weights.{term, perByte}
+use Rattle.lengths.specs.Lengths.{weightCount, eucKrCount, extraCount}
+use Rattle.euckr_decoder.specs.Standard.{pairOf, decodeOf}
+use Rattle.euckr.specs.Scoring.{scaleOf, extraOf, isEuc, isHangul, isHanja, scored, holdsOf, letterOf, aroundOf, innerOf, outerOf, hangulOf, hanjaOf, otherOf, unitOf, isUserPair, isMacSymbol, isLone, extends, extensionOf, after, strayOf, errorOf, onEvent, Lent, lent, stepOf}
 use Rattle.euckr.specs.EucKr.{Sound, soundB, Small, Slight, ranAs, Weighed, readyB, Ready, ranOf}
 use Rattle.euckr.specs.Ways.{gain-pick, letter-small, hangul-small, hanja-small, other-small}
 use Rattle.euckr.specs.declared.EucKr.{EucKr}
@@ -50,9 +51,9 @@ module _ (index : List ℕ) (extras weights : List ℤ) (m : EucKr) (xs : List �
   pub ready-true : readyB index extras weights m xs ≡ true → Ready index extras weights m xs
   unfolding readyB
   ready-true e =
-      let a = both (soundB room m) (leb (length xs) limit && (eqb (length index) entries && (eqb (length extras) extraCount && eqb (length weights) weightCount))) e in
-      let b = both (leb (length xs) limit) (eqb (length index) entries && (eqb (length extras) extraCount && eqb (length weights) weightCount)) (a .1) in
-      let c = both (eqb (length index) entries) (eqb (length extras) extraCount && eqb (length weights) weightCount) (b .1) in
+      let a = both (soundB room m) (leb (length xs) limit && (eqb (length index) eucKrCount && (eqb (length extras) extraCount && eqb (length weights) weightCount))) e in
+      let b = both (leb (length xs) limit) (eqb (length index) eucKrCount && (eqb (length extras) extraCount && eqb (length weights) weightCount)) (a .1) in
+      let c = both (eqb (length index) eucKrCount) (eqb (length extras) extraCount && eqb (length weights) weightCount) (b .1) in
       let d = both (eqb (length extras) extraCount) (eqb (length weights) weightCount) (c .1) in
       record { sound = sound-true room m (a .0); short = leb-true _ _ (b .0); index-length = eqb-true _ _ (c .0); extras-length = eqb-true _ _ (d .0); weights-length = eqb-true _ _ (d .1) }
 

@@ -35,9 +35,6 @@ isHangul u = between 0xAC00 0xD7A3 u
 abbrev pub isHanja : ℕ → Bool
 isHanja u = between 0x4E00 0xABFF u || between 0xF900 0xFA0B u
 
-abbrev pub extraCount : ℕ
-extraCount = 11172
-
 -- the lent extra of a Hangul
 unfoldable pub extraOf : List ℤ → ℕ → ℤ
 extraOf extras u = getD extras (u - 0xAC00) (pos 0)

@@ -8,9 +8,9 @@ ghost use Rattle.laws.specs.Run.{live, run};
 ghost use Rattle.pairs.specs.Pairs.{isLeadOrNone, SmallHeld};
 ghost use Rattle.pairs.specs.declared.Held.the-variants.{Nothing};
 ghost use Rattle.laws.specs.Limit.{limit, room};
-ghost use Rattle.weights.specs.Weights.{term, perByte, weightCount};
-ghost use Rattle.euckr_decoder.specs.Standard.{entries};
-ghost use Rattle.euckr.specs.Scoring.{scaleOf, extraCount, extraOf, isEuc, isHangul, isHanja, hangulAfter, hanjaAfter, letterAfter, longOf, holdsOf, scored, letterOf, aroundOf, innerOf, outerOf, hangulOf, hanjaOf, otherOf, unitOf, isUserPair, isMacLead, isMacSymbol, isExtension, isLone, extensionOf, after as afterOf, pendingOf, strayOf, errorOf, lent, freshOf, stepOf};
+ghost use Rattle.weights.specs.Weights.{term, perByte};
+ghost use Rattle.lengths.specs.Lengths.{weightCount, eucKrCount, extraCount};
+ghost use Rattle.euckr.specs.Scoring.{scaleOf, extraOf, isEuc, isHangul, isHanja, hangulAfter, hanjaAfter, letterAfter, longOf, holdsOf, scored, letterOf, aroundOf, innerOf, outerOf, hangulOf, hanjaOf, otherOf, unitOf, isUserPair, isMacLead, isMacSymbol, isExtension, isLone, extensionOf, after as afterOf, pendingOf, strayOf, errorOf, lent, freshOf, stepOf};
 ghost use Rattle.euckr.specs.EucKr.{Sound, soundB, Small, outOf, ranAs, Slight, Bounded, Weighed, lentB, readyB, ranOf, closedOf};
 ghost use Rattle.euckr.specs.declared.LatinKorean.the-variants.{Other};
 use pairs::Event;
@@ -180,18 +180,6 @@ impl Scale {
 }
 
 impl EucKr {
-    // How many entries its index has.
-    pub const INDEX: usize = euckr_decoder::INDEX;
-
-    // How many bytes a part has at most.
-    pub const LIMIT: usize = 268435456;
-
-    // A count at the entry of a call is at most this, so that no run makes it wrap.
-    const ROOM: u64 = 4611686018427387904;
-
-    // How many extras there are, one for each Hangul.
-    pub const EXTRAS: usize = 11172;
-
     pub fn fresh() -> EucKr
         ensures { λ r. ⌜ r ≡ freshOf ⌝ }
     {
@@ -523,7 +511,7 @@ impl EucKr {
     fn step(self, b: u8, index: &[u32], extras: &[i16], w: Scale) -> Stepped
         requires { ⌜ Small w ⌝ }
         requires { ⌜ Sound (2 * room) self ⌝ }
-        requires { ⌜ length (now index) ≡ entries ⌝ }
+        requires { ⌜ length (now index) ≡ eucKrCount ⌝ }
         requires { ⌜ length (now extras) ≡ extraCount ⌝ }
         ensures { λ r. ⌜ outOf r ≡ stepOf (lent (now (index .entry)) (now (extras .entry)) w) self b ⌝ }
         ensures { λ r. ⌜ Slight (outOf r) ⌝ }
@@ -542,7 +530,7 @@ impl EucKr {
         requires { ⌜ Small w ⌝ }
         requires { ⌜ Sound room self ⌝ }
         requires { ⌜ length (now part) ≤ limit ⌝ }
-        requires { ⌜ length (now index) ≡ entries ⌝ }
+        requires { ⌜ length (now index) ≡ eucKrCount ⌝ }
         requires { ⌜ length (now extras) ≡ extraCount ⌝ }
         ensures { λ r. ⌜ r ≡ ranAs (run (stepOf (lent (now (index .entry)) (now (extras .entry)) w)) (live self (pos 0)) (now (part .entry))) ⌝ }
         ensures { λ r. ⌜ Bounded (perByte * length (now (part .entry))) r ⌝ }
@@ -593,7 +581,7 @@ impl EucKr {
     pub fn close(self) -> Ran
         ensures { λ r. ⌜ r ≡ closedOf self ⌝ }
     {
-        if self.is_sound_for(EucKr::ROOM) {
+        if self.is_sound_for(lengths::ROOM) {
             if self.lead == 0 {
                 return Ran::Live(self, 0);
             }
@@ -607,9 +595,9 @@ impl EucKr {
 fn is_lent(index: &[u32], extras: &[i16], weights: &[i32]) -> bool
     ensures { λ r. ⌜ r ≡ lentB (now (index .entry)) (now (extras .entry)) (now (weights .entry)) ⌝ }
 {
-    if index.len() == EucKr::INDEX {
-        if extras.len() == EucKr::EXTRAS {
-            return weights.len() == weights::COUNT;
+    if index.len() == lengths::EUC_KR {
+        if extras.len() == lengths::EXTRAS {
+            return weights.len() == lengths::WEIGHTS;
         }
     }
     false
@@ -619,8 +607,8 @@ fn is_lent(index: &[u32], extras: &[i16], weights: &[i32]) -> bool
 fn is_ready(m: EucKr, part: &[u8], index: &[u32], extras: &[i16], weights: &[i32]) -> bool
     ensures { λ r. ⌜ r ≡ readyB (now (index .entry)) (now (extras .entry)) (now (weights .entry)) m (now (part .entry)) ⌝ }
 {
-    if m.is_sound_for(EucKr::ROOM) {
-        if part.len() <= EucKr::LIMIT {
+    if m.is_sound_for(lengths::ROOM) {
+        if part.len() <= lengths::MOST {
             return is_lent(index, extras, weights);
         }
     }

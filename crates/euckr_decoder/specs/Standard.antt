@@ -5,15 +5,13 @@ use Prim.Native.Nat.{ℕ, _+_, _-_, _*_}
 use lib.Dec.{eqb}
 use lib.ListN.{length, getD}
 use Rattle.octets.specs.Octets.{between}
+use Rattle.lengths.specs.Lengths.{eucKrCount}
 use Rattle.pairs.specs.Pairs.{isLeadOrNone, malformedOf, handlerOf}
 use Rattle.pairs.specs.declared.Decoded.{Decoded}
 use Rattle.pairs.specs.declared.Event.{Event}
 use Rattle.pairs.specs.declared.Reply.{Reply}
 use Rattle.pairs.specs.declared.Reply.the-variants.{Byte, Unfit}
 use Rattle.pairs.specs.declared.Event.the-variants.{Point}
-
-abbrev pub entries : ℕ
-entries = 23940
 
 abbrev pub isTrail : ℕ → Bool
 isTrail b = between 0x41 0xFE b
@@ -40,4 +38,4 @@ module _ (index : List ℕ) where
 
   -- the decoder alone answers every lead, byte and index: only a lead that it can hold, or 0, and an index of the exact length are fit
   unfoldable pub replyOf : ℕ → ℕ → Reply
-  replyOf lead b = cond (isLeadOrNone lead && eqb (length index) entries) (Byte (decodeOf lead b)) Unfit
+  replyOf lead b = cond (isLeadOrNone lead && eqb (length index) eucKrCount) (Byte (decodeOf lead b)) Unfit

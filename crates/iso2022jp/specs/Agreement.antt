@@ -1,5 +1,6 @@
 -- How the machine's record stands for the Standard's variables, and its outcomes for the Standard's results. Assumes nothing.
 use Prim.Native.Nat.{ℕ}
+use Rattle.laws.specs.Run.{Outcome}
 use Rattle.iso2022jp.specs.declared.DecoderState.{DecoderState as MachineState}
 use Rattle.iso2022jp.specs.declared.DecoderState.the-variants.{Ascii, Roman, Katakana, LeadByte, TrailByte, EscapeStart, Escape}
 use Rattle.iso2022jp.specs.declared.OutputState.{OutputState as MachineOutput}
@@ -7,7 +8,7 @@ use Rattle.iso2022jp.specs.declared.OutputState.the-variants.{Ascii as O
 use Rattle.iso2022jp.specs.declared.Iso2022Jp.{Iso2022Jp}
 use Rattle.laws.specs.Validator.{Result, outcomeBy}
 use Rattle.iso2022jp.specs.Standard.{DecoderState, ascii, roman, katakana, lead-byte, trail-byte, escape-start, escape, OutputState, out-ascii, out-roman, out-katakana, out-lead-byte, Decoder}
-use Rattle.iso2022jp.specs.Iso2022Jp.{Outcome, holds}
+use Rattle.iso2022jp.specs.Iso2022Jp.{holds}
 
 abbrev pub decoderState : DecoderState → MachineState
 decoderState ascii = Ascii
@@ -37,5 +38,5 @@ pendingLead escape lead = lead
 abbrev pub recordOf : Decoder → Iso2022Jp
 recordOf d = holds (decoderState (d .decoder-state)) (outputState (d .output-state)) (pendingLead (d .decoder-state) (d .lead)) (d .output)
 
-abbrev pub outcomeOf : Result Decoder → Outcome
+abbrev pub outcomeOf : Result Decoder → Outcome Iso2022Jp
 outcomeOf r = outcomeBy recordOf r

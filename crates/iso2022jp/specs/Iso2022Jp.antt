@@ -8,6 +8,7 @@ use lib.Dec.{eqb, leb}
 use lib.IntN.{pos}
 use lib.ListN.{length, getD}
 use Rattle.laws.specs.Lists.{isIn}
+use Rattle.lengths.specs.Lengths.{jisCount}
 use Rattle.laws.specs.Limit.{limit}
 use Rattle.laws.specs.Run.{dropout, Outcome, none, live, run}
 use Rattle.octets.specs.Octets.{between}
@@ -24,9 +25,6 @@ use Rattle.iso2022jp.specs.declared.Ran.{Ran}
 use Rattle.iso2022jp.specs.declared.Ran.the-variants.{Live, Dropped, Unfit}
 
 -- nothing is carried by a machine that dropped out
-abbrev pub Outcome : Type 0
-Outcome = Outcome Iso2022Jp
-
 -- ---- records
 abbrev pub holds : DecoderState → OutputState → ℕ → Bool → Iso2022Jp
 holds state out lead output = record { state = state; out = out; lead = lead; output = output }
@@ -64,9 +62,6 @@ abbrev pub soundB : Iso2022Jp → Bool
 soundB m = leadInB (m .state) (m .lead)
 
 -- ---- the lent index
-abbrev pub entries : ℕ
-entries = 8836
-
 -- an entry that is a code point
 unfoldable pub mapped : ℕ → Bool
 mapped entry = between 0x80 0xD7FF entry || between 0xE000 0xFFFF entry
@@ -76,10 +71,10 @@ abbrev pub indexedBy : List ℕ → ℕ → Bool
 indexedBy index pointer = mapped (getD index pointer 0)
 
 -- ---- one byte
-abbrev pub alive : Iso2022Jp → Outcome
+abbrev pub alive : Iso2022Jp → Outcome Iso2022Jp
 alive m = live m (pos 0)
 
-abbrev pub dropped : Outcome
+abbrev pub dropped : Outcome Iso2022Jp
 dropped = none dropout
 
 abbrev pub escapeByte : ℕ
@@ -97,34 +92,34 @@ putOut state m = holds state (m .out) 0 false
 unfoldable pub isText : ℕ → Bool
 isText b = between 0x00 0x7F b && not (isIn (0x0E ∷ 0x0F ∷ escapeByte ∷ []) b)
 
-unfoldable pub asciiOf : DecoderState → Iso2022Jp → ℕ → Outcome
+unfoldable pub asciiOf : DecoderState → Iso2022Jp → ℕ → Outcome Iso2022Jp
 asciiOf state m b =
     cond (eqb b escapeByte) (alive (started m))
     (cond (isText b) (alive (putOut state m)) dropped)
 
 -- 21 up to a highest byte
-unfoldable pub rangedOf : Iso2022Jp → Iso2022Jp → ℕ → ℕ → Outcome
+unfoldable pub rangedOf : Iso2022Jp → Iso2022Jp → ℕ → ℕ → Outcome Iso2022Jp
 rangedOf m next high b =
     cond (eqb b escapeByte) (alive (started m))
     (cond (between 0x21 high b) (alive next) dropped)
 
-abbrev pub katakanaOf : Iso2022Jp → ℕ → Outcome
+abbrev pub katakanaOf : Iso2022Jp → ℕ → Outcome Iso2022Jp
 katakanaOf m b = rangedOf m (putOut Katakana m) 0x5F b
 
-abbrev pub leadOf : Iso2022Jp → ℕ → Outcome
+abbrev pub leadOf : Iso2022Jp → ℕ → Outcome Iso2022Jp
 leadOf m b = rangedOf m (holds TrailByte (m .out) b false) 0x7E b
 
 -- where a pair stands in the index
 abbrev pub pairAt : ℕ → ℕ → ℕ
 pairAt lead b = (lead - 0x21) * 94 + (b - 0x21)
 
-unfoldable pub trailOf : List ℕ → Iso2022Jp → ℕ → Outcome
+unfoldable pub trailOf : List ℕ → Iso2022Jp → ℕ → Outcome Iso2022Jp
 trailOf index m b =
     cond (between 0x21 0x7E b)
     (cond (indexedBy index (pairAt (m .lead) b)) (alive (holds LeadByte (m .out) 0 (m .output))) dropped)
     dropped
 
-unfoldable pub escapeStartOf : Iso2022Jp → ℕ → Outcome
+unfoldable pub escapeStartOf : Iso2022Jp → ℕ → Outcome Iso2022Jp
 escapeStartOf m b = cond (leadsEscape b) (alive (holds Escape (m .out) b (m .output))) dropped
 
 -- what an escape's two bytes designate
@@ -141,14 +136,14 @@ stateOf OutRoman = Roman
 stateOf OutKatakana = Katakana
 stateOf OutLeadByte = LeadByte
 
-unfoldable pub escapedTo : Bool → Designated → Outcome
+unfoldable pub escapedTo : Bool → Designated → Outcome Iso2022Jp
 escapedTo output Nothing = dropped
 escapedTo output (To o) = cond output dropped (alive (holds (stateOf o) o 0 true))
 
-abbrev pub escapeOf : Iso2022Jp → ℕ → Outcome
+abbrev pub escapeOf : Iso2022Jp → ℕ → Outcome Iso2022Jp
 escapeOf m b = escapedTo (m .output) (designated (m .lead) b)
 
-unfoldable pub stepIn : List ℕ → DecoderState → Iso2022Jp → ℕ → Outcome
+unfoldable pub stepIn : List ℕ → DecoderState → Iso2022Jp → ℕ → Outcome Iso2022Jp
 stepIn index Ascii m b = asciiOf Ascii m b
 stepIn index Roman m b = asciiOf Roman m b
 stepIn index Katakana m b = katakanaOf m b
@@ -157,7 +152,7 @@ stepIn index TrailByte m b = trailOf index m b
 stepIn index EscapeStart m b = escapeStartOf m b
 stepIn index Escape m b = escapeOf m b
 
-abbrev pub stepOf : List ℕ → Iso2022Jp → ℕ → Outcome
+abbrev pub stepOf : List ℕ → Iso2022Jp → ℕ → Outcome Iso2022Jp
 stepOf index m b = stepIn index (m .state) m b
 
 -- the byte leaves the record as it is
@@ -165,7 +160,7 @@ unfoldable pub Passes : Iso2022Jp → ℕ → Type 0
 Passes m b = (index : List ℕ) → stepOf index m b ≡ alive m
 
 -- ---- the end of the stream
-unfoldable pub closeIn : DecoderState → Iso2022Jp → Outcome
+unfoldable pub closeIn : DecoderState → Iso2022Jp → Outcome Iso2022Jp
 closeIn Ascii m = alive m
 closeIn Roman m = alive m
 closeIn Katakana m = alive m
@@ -174,26 +169,26 @@ closeIn TrailByte m = dropped
 closeIn EscapeStart m = dropped
 closeIn Escape m = dropped
 
-abbrev pub closeOf : Iso2022Jp → Outcome
+abbrev pub closeOf : Iso2022Jp → Outcome Iso2022Jp
 closeOf m = closeIn (m .state) m
 
 -- ---- the code's answers
-abbrev pub outOf : Stepped → Outcome
+abbrev pub outOf : Stepped → Outcome Iso2022Jp
 outOf (Alive m g) = live m g
 outOf Invalid = dropped
 
-unfoldable pub ranAs : Outcome → Ran
+unfoldable pub ranAs : Outcome Iso2022Jp → Ran
 ranAs (none d) = Dropped
 ranAs (live m s) = Live m
 
 -- a record that the kind can hold, an index of the right length, and a stretch that is not too long
 pub record Ready (index : List ℕ) (m : Iso2022Jp) (xs : List ℕ) : Type 0 where
   pub sound : Sound m
-  pub sized : length index ≡ entries
+  pub sized : length index ≡ jisCount
   pub short : length xs ≤ limit
 
 unfoldable pub readyB : List ℕ → Iso2022Jp → List ℕ → Bool
-readyB index m xs = soundB m && (eqb (length index) entries && leb (length xs) limit)
+readyB index m xs = soundB m && (eqb (length index) jisCount && leb (length xs) limit)
 
 unfoldable pub ranOf : List ℕ → Iso2022Jp → List ℕ → Ran
 ranOf index m xs = cond (readyB index m xs) (ranAs (run (stepOf index) (alive m) xs)) Unfit

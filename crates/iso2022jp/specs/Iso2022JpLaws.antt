@@ -10,8 +10,9 @@ use lib.IntN.{ℤ, pos}
 use lib.ListN.{length}
 use borrow.Author.Tests.{eq-eqb, ne-eqb, eqb-true, le-leb, lt-leb, leb-true, leb-false, ltb-true, ltb-false, not-true}
 use Rattle.laws.specs.Lists.{any, isIn}
+use Rattle.lengths.specs.Lengths.{jisCount}
 use Rattle.laws.specs.Limit.{limit}
-use Rattle.laws.specs.Run.{live, run, run-append}
+use Rattle.laws.specs.Run.{Outcome, live, run, run-append}
 use Rattle.laws.specs.Still.{Ends, run-ends, run-stays}
 use Rattle.laws.specs.Tests.{both, neither, either}
 use Rattle.octets.specs.Octets.{between, nonAscii}
@@ -25,7 +26,7 @@ use Rattle.iso2022jp.specs.declared.Designated.the-variants.{To, Nothing
 use Rattle.iso2022jp.specs.declared.Iso2022Jp.{Iso2022Jp}
 use Rattle.iso2022jp.specs.declared.Ran.{Ran}
 use Rattle.iso2022jp.specs.declared.Ran.the-variants.{Unfit}
-use Rattle.iso2022jp.specs.Iso2022Jp.{Outcome, Passes, holds, fresh, LeadIn, Sound, leadsEscape, leadInB, soundB, entries, mapped, indexedBy, alive, escapeByte, putOut, isText, asciiOf, rangedOf, pairAt, trailOf, escapeStartOf, designated, stateOf, escapedTo, stepIn, stepOf, closeOf, ranAs, Ready, readyB, ranOf, closedOf}
+use Rattle.iso2022jp.specs.Iso2022Jp.{Passes, holds, fresh, LeadIn, Sound, leadsEscape, leadInB, soundB, mapped, indexedBy, alive, escapeByte, putOut, isText, asciiOf, rangedOf, pairAt, trailOf, escapeStartOf, designated, stateOf, escapedTo, stepIn, stepOf, closeOf, ranAs, Ready, readyB, ranOf, closedOf}
 
 -- ---- an entry of the index, each way through the code
 module _ (entry : ℕ) where
@@ -126,7 +127,7 @@ pub fresh-sound : Sound fresh
 fresh-sound = refl
 
 -- ---- a step keeps it, and changes no score
-abbrev Kept : Outcome → Type 0
+abbrev Kept : Outcome Iso2022Jp → Type 0
 Kept o = Ends Sound (pos 0) o
 
 module _ (m : Iso2022Jp) (b : ℕ) where
@@ -180,7 +181,7 @@ module _ (index : List ℕ) where
   run-keeps m s xs h = run-ends (stepOf index) Sound (step-keeps index) s (live m s) xs (h, refl)
 
   -- ---- joining, by the law of every machine
-  pub run-joins : (o : Outcome) (xs ys : List ℕ) → run (stepOf index) o (xs ++ ys) ≡ run (stepOf index) (run (stepOf index) o xs) ys
+  pub run-joins : (o : Outcome Iso2022Jp) (xs ys : List ℕ) → run (stepOf index) o (xs ++ ys) ≡ run (stepOf index) (run (stepOf index) o xs) ys
   run-joins o xs ys = run-append (stepOf index) o xs ys
 
 -- ---- ASCII without escape, shift out and shift in leaves the record fresh
@@ -207,7 +208,7 @@ module _ (index : List ℕ) (m : Iso2022Jp) (xs : List ℕ) where
   unfolding readyB
   true-ready e =
       let p = both (soundB m) _ e in
-      let q = both (eqb (length index) entries) _ (p .1) in
+      let q = both (eqb (length index) jisCount) _ (p .1) in
       record { sound = true-sound m (p .0); sized = eqb-true _ _ (q .0); short = leb-true _ _ (q .1) }
 
   -- a caller that tested
@@ -224,7 +225,7 @@ module _ (index : List ℕ) (m : Iso2022Jp) (xs : List ℕ) where
   unfolding readyB
   ran-unsound e = ran-unfit (rw e)
 
-  pub ran-unsized : (length index ≡ entries → ⊥) → Unfit ≡ ranOf index m xs
+  pub ran-unsized : (length index ≡ jisCount → ⊥) → Unfit ≡ ranOf index m xs
   unfolding readyB
   ran-unsized e = ran-unfit (rw (ne-eqb _ _ e, and-false))
 

@@ -4,8 +4,9 @@ ghost use mathlib.Core.Bool.{true};
 ghost use Prim.Native.Nat.{_≤_};
 ghost use lib.ListN.{length};
 ghost use Rattle.laws.specs.Run.{run};
+ghost use Rattle.lengths.specs.Lengths.{jisCount};
 ghost use Rattle.octets.specs.Octets.{between};
-ghost use Rattle.iso2022jp.specs.Iso2022Jp.{Sound, Passes, alive, asciiOf, closedOf, designated, entries, escapeOf, escapeStartOf, fresh, isText, katakanaOf, leadOf, leadsEscape, mapped, outOf, ranAs, ranOf, rangedOf, soundB, started, stateOf, stepOf, trailOf};
+ghost use Rattle.iso2022jp.specs.Iso2022Jp.{Sound, Passes, alive, asciiOf, closedOf, designated, escapeOf, escapeStartOf, fresh, isText, katakanaOf, leadOf, leadsEscape, mapped, outOf, ranAs, ranOf, rangedOf, soundB, started, stateOf, stepOf, trailOf};
 
 pub enum DecoderState {
     Ascii,
@@ -136,10 +137,6 @@ fn decoder_state(out: OutputState) -> DecoderState
 impl Iso2022Jp {
     pub const ESCAPE: u8 = 0x1B;
 
-    pub const ENTRIES: usize = 8836;
-
-    pub const MOST: usize = 268_435_456;
-
     pub fn fresh() -> Iso2022Jp
         ensures { λ r. ⌜ r ≡ fresh ⌝ }
     {
@@ -256,7 +253,7 @@ impl Iso2022Jp {
 
     // An escape byte is an error here too.
     fn trail_byte(self, b: u8, index: &[u32]) -> Stepped
-        requires { ⌜ ((0x21 ≤ self .lead) × (self .lead ≤ 0x7E)) × (length (now index) ≡ entries) ⌝ }
+        requires { ⌜ ((0x21 ≤ self .lead) × (self .lead ≤ 0x7E)) × (length (now index) ≡ jisCount) ⌝ }
         ensures { λ r. ⌜ outOf r ≡ trailOf (now (index .entry)) self b ⌝ }
     {
         if !is_between(0x21, 0x7E, b) {
@@ -318,7 +315,7 @@ impl Iso2022Jp {
     }
 
     fn step(self, b: u8, index: &[u32]) -> Stepped
-        requires { ⌜ Sound self × (length (now index) ≡ entries) ⌝ }
+        requires { ⌜ Sound self × (length (now index) ≡ jisCount) ⌝ }
         ensures { λ r. ⌜ outOf r ≡ stepOf (now (index .entry)) self b ⌝ }
     {
         let state = self.state;
@@ -333,7 +330,7 @@ impl Iso2022Jp {
     }
 
     fn go(self, part: &[u8], index: &[u32]) -> Ran
-        requires { ⌜ Sound self × (length (now index) ≡ entries) ⌝ }
+        requires { ⌜ Sound self × (length (now index) ≡ jisCount) ⌝ }
         ensures { λ r. ⌜ r ≡ ranAs (run (stepOf (now (index .entry))) (alive self) (now (part .entry))) ⌝ }
     {
         let mut m = self;
@@ -358,8 +355,8 @@ impl Iso2022Jp {
         ensures { λ r. ⌜ r ≡ ranOf (now (index .entry)) self (now (part .entry)) ⌝ }
     {
         if self.is_sound() {
-            if index.len() == Iso2022Jp::ENTRIES {
-                if part.len() <= Iso2022Jp::MOST {
+            if index.len() == lengths::JIS {
+                if part.len() <= lengths::MOST {
                     return self.go(part, index);
                 }
             }

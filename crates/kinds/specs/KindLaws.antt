@@ -8,7 +8,7 @@ use Rattle.laws.specs.Carried.{carried, Holds, run-holds}
 use Rattle.laws.specs.Run.{Outcome, none, live, run}
 use Rattle.kinds.specs.Kinds.{kindOf, freshIn, stepOf, closeOf}
 use Rattle.kinds.specs.Sound.{takesSpace, reachOf}
-use Rattle.lengths.specs.Tables.{Singles, Tables}
+use Rattle.tables.specs.Tables.{Singles, Tables}
 use Rattle.kinds.specs.declared.machine.Machine.{Machine}
 use Rattle.kinds.specs.declared.machine.Machine.the-variants.{Utf8, Iso2022Jp, EucKr, Big5, Caseless, Logical, Visual, ArabicFrench}
 

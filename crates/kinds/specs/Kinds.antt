@@ -31,7 +31,7 @@ use Rattle.visual.specs.declared.Ran.the-variants as visual-ran
 use Rattle.utf8.specs.declared.Ran.{Ran as Utf8Ran}
 use Rattle.utf8.specs.declared.Ran.the-variants as utf-8-ran
 use Rattle.utf8.specs.Utf8 as utf-8
-use Rattle.lengths.specs.Tables.{Singles, Tables, lentTo}
+use Rattle.tables.specs.Tables.{Singles, Tables, lentTo}
 use Rattle.kinds.specs.declared.machine.Machine.{Machine}
 use Rattle.kinds.specs.declared.machine.Machine.the-variants.{Utf8, Iso2022Jp, EucKr, Big5, Caseless, Logical, Visual, ArabicFrench}
 use Rattle.kinds.specs.declared.machine.Ran.{Ran}

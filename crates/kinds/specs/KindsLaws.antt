@@ -60,8 +60,8 @@ use Rattle.utf8.specs.declared.Ran.the-variants as utf-8-ran
 use Rattle.utf8.specs.declared.Utf8.{Utf8 as Utf8Record}
 use Rattle.kinds.specs.Kinds.{stepOf, closeOf, ranAs, ofUtf8, ofIso2022Jp, ofEucKr, ofBig5, ofCaseless, ofLogical, ofVisual, ofArabicFrench, ranOf, closedOf, Small, WeighedIn, Weighed}
 use Rattle.kinds.specs.Sound.{SoundFor}
-use Rattle.lengths.specs.Tables.{Single, Singles, Tables, lentTo, Sized}
-use Rattle.lengths.specs.TablesLaws.{SizedOne, Lengths, lengths-of, single-sized}
+use Rattle.tables.specs.Tables.{Single, Singles, Tables, lentTo, Sized}
+use Rattle.tables.specs.TablesLaws.{SizedOne, Lengths, lengths-of, single-sized}
 use Rattle.kinds.specs.declared.machine.Machine.{Machine}
 use Rattle.kinds.specs.declared.machine.Machine.the-variants.{Utf8, Iso2022Jp, EucKr, Big5, Caseless, Logical, Visual, ArabicFrench}
 use Rattle.kinds.specs.declared.machine.Ran.{Ran}

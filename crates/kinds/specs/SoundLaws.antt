@@ -46,7 +46,7 @@ use Rattle.utf8.specs.Utf8Laws as utf-8-laws
 use Rattle.kinds.specs.Kinds.{kindOf, freshIn, stepOf, closeOf, WeighedIn}
 use Rattle.kinds.specs.KindsLaws.{run-utf-8, run-iso2022jp, run-euckr, run-big5, run-caseless, run-logical, run-visual, run-arabicFrench, utf-8-still, iso2022jp-still}
 use Rattle.kinds.specs.Sound.{takesSpace, reachOf, SoundFor, soundLogicalB, soundB}
-use Rattle.lengths.specs.Tables.{Singles, Tables, lentTo}
+use Rattle.tables.specs.Tables.{Singles, Tables, lentTo}
 use Rattle.kinds.specs.declared.machine.Machine.{Machine}
 use Rattle.kinds.specs.declared.machine.Machine.the-variants.{Utf8, Iso2022Jp, EucKr, Big5, Caseless, Logical, Visual, ArabicFrench}
 

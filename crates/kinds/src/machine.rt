@@ -3,7 +3,7 @@ ghost use mathlib.Core.Path.{_≡_};
 ghost use Prim.Native.Nat.{_*_};
 ghost use lib.ListN.{length};
 ghost use Rattle.weights.specs.Weights.{perByte};
-ghost use Rattle.lengths.specs.Tables.{single, singles, tables};
+ghost use Rattle.tables.specs.Tables.{single, singles, tables};
 ghost use Rattle.kinds.specs.Kinds.{kindOf, freshIn, ofUtf8, ofIso2022Jp, ofEucKr, ofBig5, ofCaseless, ofLogical, ofVisual, ofArabicFrench, ranOf, closedOf, Small, Weighed};
 use arabic_french::ArabicFrench;
 use big5;

@@ -1,11 +1,5 @@
-// The seventeen lent tables: their lengths, in document 01's order.
-ghost use mathlib.Core.Path.{_≡_};
-ghost use Rattle.lengths.specs.Tables.{single, singles, tables, singleB, restB, sizedB};
-
-pub mod tests;
-
-use tests::both;
-
+// How long each lent table is, and a stream at most: the numbers that the code knows, each once. `specs/Lengths.antt` and
+// the limit of `laws` have them for the definitions.
 pub const CLASSES: usize = 256;
 
 pub const MARKS: usize = 128;
@@ -20,50 +14,12 @@ pub const JIS: usize = 8_836;
 
 pub const EXTRAS: usize = 11_172;
 
-fn is_single(classes: &[u8], marks: &[u8], pairs: &[i16]) -> bool
-    ensures { λ r. ⌜ r ≡ singleB (single (now (classes .entry)) (now (marks .entry)) (now (pairs .entry))) ⌝ }
-{
-    both(
-        classes.len() == CLASSES,
-        both(marks.len() == MARKS, pairs.len() == PAIRS),
-    )
-}
+pub const WEIGHTS: usize = 17;
 
-fn are_rest(big5: &[u32], euckr: &[u32], jis: &[u32], extras: &[i16], weights: &[i32]) -> bool
-    ensures { λ r. ⌜ r ≡ restB (now (big5 .entry)) (now (euckr .entry)) (now (jis .entry)) (now (extras .entry)) (now (weights .entry)) ⌝ }
-{
-    let numbers = both(extras.len() == EXTRAS, weights.len() == weights::COUNT);
-    both(
-        big5.len() == BIG5,
-        both(euckr.len() == EUC_KR, both(jis.len() == JIS, numbers)),
-    )
-}
+// Bytes of a stream at most, and so of a part of it.
+pub const LIMIT: u64 = 268_435_456;
 
-// Whether every lent length is exact.
-pub fn are_sized(
-    classes4: &[u8],
-    marks4: &[u8],
-    pairs4: &[i16],
-    classes5: &[u8],
-    marks5: &[u8],
-    pairs5: &[i16],
-    classes6: &[u8],
-    marks6: &[u8],
-    pairs6: &[i16],
-    classes7: &[u8],
-    marks7: &[u8],
-    pairs7: &[i16],
-    big5: &[u32],
-    euckr: &[u32],
-    jis: &[u32],
-    extras: &[i16],
-    weights: &[i32],
-) -> bool
-    ensures { λ r. ⌜ r ≡ sizedB (tables (singles (single (now (classes4 .entry)) (now (marks4 .entry)) (now (pairs4 .entry))) (single (now (classes5 .entry)) (now (marks5 .entry)) (now (pairs5 .entry))) (single (now (classes6 .entry)) (now (marks6 .entry)) (now (pairs6 .entry))) (single (now (classes7 .entry)) (now (marks7 .entry)) (now (pairs7 .entry)))) (now (big5 .entry)) (now (euckr .entry)) (now (jis .entry)) (now (extras .entry)) (now (weights .entry))) ⌝ }
-{
-    let rest = are_rest(big5, euckr, jis, extras, weights);
-    let last = both(is_single(classes7, marks7, pairs7), rest);
-    let third = both(is_single(classes6, marks6, pairs6), last);
-    let second = both(is_single(classes5, marks5, pairs5), third);
-    both(is_single(classes4, marks4, pairs4), second)
-}
+pub const MOST: usize = LIMIT as usize;
+
+// A count at the entry of a call is at most this, so that no run makes it wrap.
+pub const ROOM: u64 = 4_611_686_018_427_387_904;

@@ -6,7 +6,7 @@ use lib.IntN.{ℤ}
 use lib.ListN.{length}
 use Rattle.laws.specs.Each.{EachFrom}
 use Rattle.laws.specs.Limit.{limit}
-use Rattle.lengths.specs.Tables.{Singles, Tables}
+use Rattle.tables.specs.Tables.{Singles, Tables}
 use Rattle.places.specs.Order.{PlaceFor}
 use Rattle.places.specs.Place.{feedOf}
 use Rattle.places.specs.Steps.{endOf}

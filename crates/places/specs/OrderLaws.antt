@@ -30,7 +30,7 @@ use Rattle.kinds.specs.Kinds.{kindOf, freshIn, stepOf, closeOf, WeighedIn}
 use Rattle.kinds.specs.KindsLaws.{utf-8-still, iso2022jp-still}
 use Rattle.kinds.specs.Sound.{takesSpace, reachOf, SoundFor, soundB}
 use Rattle.kinds.specs.SoundLaws.{sound-true, true-sound, sound-more, fresh-sound, run-sound, close-sound}
-use Rattle.lengths.specs.Tables.{Singles, Tables}
+use Rattle.tables.specs.Tables.{Singles, Tables}
 use Rattle.kinds.specs.declared.machine.Machine.{Machine}
 use Rattle.kinds.specs.declared.machine.Machine.the-variants.{Utf8, Iso2022Jp, EucKr, Big5, Caseless, Logical, Visual, ArabicFrench}
 use Rattle.places.specs.Order.{ScoredFor, ZeroOrNone, FedOr, PlaceFor, SlateFor, scoredB, zeroOrNoneB, unfedB, placeB, slateB}

@@ -5,7 +5,7 @@ use Prim.Native.Nat.{ℕ}
 use lib.IntN.{ℤ}
 use Rattle.laws.specs.Run.{Outcome, none, live, run, ended}
 use Rattle.kinds.specs.Kinds.{freshIn, stepOf, closeOf}
-use Rattle.lengths.specs.Tables.{Tables}
+use Rattle.tables.specs.Tables.{Tables}
 use Rattle.kinds.specs.declared.machine.Machine.{Machine}
 use Rattle.places.specs.declared.place.Place.{Place}
 use Rattle.places.specs.declared.place.Score.{Score}

@@ -18,7 +18,7 @@ use Rattle.kinds.specs.Kinds.{kindOf, freshIn, stepOf, closeOf, ranAs, ranOf, c
 use Rattle.kinds.specs.KindsLaws.{ran-fit, closed-fit}
 use Rattle.kinds.specs.Sound.{reachOf, SoundFor}
 use Rattle.kinds.specs.SoundLaws.{sound-more, fresh-sound}
-use Rattle.lengths.specs.Tables.{Singles, Tables, Sized}
+use Rattle.tables.specs.Tables.{Singles, Tables, Sized}
 use Rattle.kinds.specs.declared.machine.Machine.{Machine}
 use Rattle.kinds.specs.declared.machine.Ran.{Ran as MachineRan}
 use Rattle.kinds.specs.declared.machine.Ran.the-variants as ran

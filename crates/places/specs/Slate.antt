@@ -14,7 +14,7 @@ use Rattle.caseless.specs.Caseless as caseless
 use Rattle.logical.specs.Logical as logical
 use Rattle.visual.specs.Visual as visual
 use Rattle.utf8.specs.Utf8 as utf-8
-use Rattle.lengths.specs.Tables.{Tables, sizedB}
+use Rattle.tables.specs.Tables.{Tables, sizedB}
 use Rattle.kinds.specs.declared.machine.Machine.{Machine}
 use Rattle.kinds.specs.declared.machine.Machine.the-variants.{Utf8, Iso2022Jp, EucKr, Big5, Caseless, Logical, Visual, ArabicFrench}
 use Rattle.places.specs.Order.{slateB}

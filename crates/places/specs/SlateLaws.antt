@@ -26,8 +26,8 @@ use Rattle.kinds.specs.Kinds.{kindOf, freshIn}
 use Rattle.kinds.specs.KindLaws.{reach-open}
 use Rattle.kinds.specs.Sound.{reachOf, SoundFor}
 use Rattle.kinds.specs.SoundLaws.{sound-more, fresh-sound}
-use Rattle.lengths.specs.Tables.{Tables, Sized, sizedB}
-use Rattle.lengths.specs.TablesLaws.{sized-true, true-sized}
+use Rattle.tables.specs.Tables.{Tables, Sized, sizedB}
+use Rattle.tables.specs.TablesLaws.{sized-true, true-sized}
 use Rattle.kinds.specs.declared.machine.Machine.{Machine}
 use Rattle.kinds.specs.declared.machine.Machine.the-variants.{Utf8, Iso2022Jp, EucKr, Big5, Caseless, Logical, Visual, ArabicFrench}
 use Rattle.places.specs.Order.{ScoredFor, ZeroOrNone, FedOr, PlaceFor, SlateFor, slateB}

@@ -8,7 +8,7 @@ use Rattle.laws.specs.Run.{plus}
 use Rattle.weights.specs.Weights.{perByte}
 use Rattle.kinds.specs.Kinds.{freshIn, closeOf, ranAs, closedOf}
 use Rattle.kinds.specs.Sound.{SoundFor}
-use Rattle.lengths.specs.Tables.{Singles, Tables, Sized}
+use Rattle.tables.specs.Tables.{Singles, Tables, Sized}
 use Rattle.kinds.specs.declared.machine.Machine.{Machine}
 use Rattle.kinds.specs.declared.machine.Ran.{Ran}
 use Rattle.kinds.specs.declared.machine.Ran.the-variants as ran

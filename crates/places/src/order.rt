@@ -1,6 +1,6 @@
 // Which places a state in order can hold.
 ghost use mathlib.Core.Path.{_≡_};
-ghost use Prim.Native.Nat.{_≤_};
+ghost use Prim.Native.Nat.{_+_, _≤_};
 ghost use Rattle.laws.specs.Limit.{limit};
 ghost use Rattle.kinds.specs.Sound.{reachOf};
 ghost use Rattle.places.specs.Order.{scoredB, zeroOrNoneB, unfedB, placeB, slateB};
@@ -8,16 +8,10 @@ use crate::place::Place;
 use crate::place::Score;
 use crate::place::Slate;
 use kinds::machine::Machine;
-use lengths::tests::both;
-use lengths::tests::either;
 use records::fresh;
 use records::sound;
-
-// Bytes of a stream at most.
-pub const LIMIT: u64 = 268_435_456;
-
-// The same, of a chunk's length.
-pub const MOST: usize = 268_435_456;
+use tables::tests::both;
+use tables::tests::either;
 
 // What one byte adds to a score at most.
 const PER_BYTE: u64 = 10_737_418_240;
@@ -35,7 +29,7 @@ fn reach(machine: Machine, bytes: u64, closed: bool) -> u64
 
 // Fresh with no score, or with one that so many bytes can have given.
 fn is_scored(machine: Machine, score: Score, reach: u64) -> bool
-    requires { ⌜ reach ≤ 268435457 ⌝ }
+    requires { ⌜ reach ≤ limit + 1 ⌝ }
     ensures { λ r. ⌜ r ≡ scoredB reach machine score ⌝ }
 {
     match score {
@@ -84,7 +78,7 @@ fn is_in_order(place: Place, k: usize, bytes: u64, closed: bool, fed: bool) -> b
 pub fn are_in_order(places: Slate, bytes: u64, closed: bool, fed: bool) -> bool
     ensures { λ r. ⌜ r ≡ slateB bytes closed fed places ⌝ }
 {
-    if LIMIT < bytes {
+    if lengths::LIMIT < bytes {
         return false;
     }
     let mut k = 0;

@@ -1,7 +1,7 @@
 // One place, and what a part of a chunk makes of it.
 ghost use mathlib.Core.Path.{_≡_};
 ghost use lib.ListN.{length};
-ghost use Rattle.lengths.specs.Tables.{single, singles, tables};
+ghost use Rattle.tables.specs.Tables.{single, singles, tables};
 ghost use Rattle.places.specs.Kept.{Ended, Kept};
 ghost use Rattle.places.specs.Place.{feedOf};
 ghost use Rattle.places.specs.Steps.{endOf, settledOf, FitEnd, FitPart, FitSum};

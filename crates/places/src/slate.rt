@@ -1,6 +1,6 @@
 // All eight places.
 ghost use mathlib.Core.Path.{_≡_};
-ghost use Rattle.lengths.specs.Tables.{single, singles, tables, Sized};
+ghost use Rattle.tables.specs.Tables.{single, singles, tables, Sized};
 ghost use lib.ListN.{length};
 ghost use Prim.Native.Nat.{_<_, _≤_};
 ghost use mathlib.Core.Bool.{true, false};
@@ -19,9 +19,9 @@ use caseless::Caseless;
 use euckr::EucKr;
 use iso2022jp::Iso2022Jp;
 use kinds::machine::Machine;
-use lengths;
-use lengths::tests::both;
 use logical::Logical;
+use tables;
+use tables::tests::both;
 use utf8::Utf8;
 use visual::Visual;
 
@@ -154,7 +154,7 @@ pub fn feed(
     ensures { λ r. ⌜ r ≡ slatedOf (tables (singles (single (now (classes4 .entry)) (now (marks4 .entry)) (now (pairs4 .entry))) (single (now (classes5 .entry)) (now (marks5 .entry)) (now (pairs5 .entry))) (single (now (classes6 .entry)) (now (marks6 .entry)) (now (pairs6 .entry))) (single (now (classes7 .entry)) (now (marks7 .entry)) (now (pairs7 .entry)))) (now (big5 .entry)) (now (euckr .entry)) (now (jis .entry)) (now (extras .entry)) (now (weights .entry))) last (now (part .entry)) places ⌝ }
     ensures { λ r. ⌜ KeptIf (r .fit) (tables (singles (single (now (classes4 .entry)) (now (marks4 .entry)) (now (pairs4 .entry))) (single (now (classes5 .entry)) (now (marks5 .entry)) (now (pairs5 .entry))) (single (now (classes6 .entry)) (now (marks6 .entry)) (now (pairs6 .entry))) (single (now (classes7 .entry)) (now (marks7 .entry)) (now (pairs7 .entry)))) (now (big5 .entry)) (now (euckr .entry)) (now (jis .entry)) (now (extras .entry)) (now (weights .entry))) last (now (part .entry)) places ⌝ }
 {
-    let sized = lengths::are_sized(
+    let sized = tables::are_sized(
         classes4,
         marks4,
         pairs4,
@@ -174,10 +174,10 @@ pub fn feed(
         weights,
     );
     let slate = both(
-        order::are_in_order(places, order::LIMIT, false, true),
+        order::are_in_order(places, lengths::LIMIT, false, true),
         sized,
     );
-    let fit = both(part.len() <= order::MOST, slate);
+    let fit = both(part.len() <= lengths::MOST, slate);
     if fit {
         return Slated {
             fit,

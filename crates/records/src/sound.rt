@@ -2,8 +2,8 @@
 ghost use mathlib.Core.Path.{_≡_};
 ghost use Rattle.kinds.specs.Sound.{takesSpace, soundLogicalB, soundB};
 use kinds::machine::Machine;
-use lengths::tests::both;
 use logical::Logical;
+use tables::tests::both;
 
 // Whether the end of the stream is a space to it, one byte more.
 pub fn takes_space(machine: Machine) -> bool

@@ -11,11 +11,11 @@ use crate::fields;
 use crate::sheet;
 use crate::stale;
 use context::Context;
-use lengths::tests::either;
 use places::order;
 use places::place::Score;
 use state::State;
 use state::front::Front;
+use tables::tests::either;
 
 // What is wrong: the families below, of a place's kind.
 pub(crate) struct Family {
@@ -93,9 +93,19 @@ fn counts(i: usize, out: bool) -> State {
             0 => build::front(10, pick(out, 11, 10), false, false),
             1 => build::front(10, pick(out, far, 10), false, false),
             2 => build::front(pick(out, 0, 1), 1, false, false),
-            3 => build::front(pick(out, order::LIMIT + 1, order::LIMIT), 2, false, false),
-            4 => build::front(pick(out, order::LIMIT + 1, order::LIMIT), 1, true, false),
-            _ => build::front(pick(out, far, order::LIMIT), 1, false, false),
+            3 => build::front(
+                pick(out, lengths::LIMIT + 1, lengths::LIMIT),
+                2,
+                false,
+                false,
+            ),
+            4 => build::front(
+                pick(out, lengths::LIMIT + 1, lengths::LIMIT),
+                1,
+                true,
+                false,
+            ),
+            _ => build::front(pick(out, far, lengths::LIMIT), 1, false, false),
         },
     )
 }

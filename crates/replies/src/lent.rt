@@ -105,6 +105,6 @@ pub(crate) fn fed(
         &index[0..length(odd, 13, EUC_KR, index.len())],
         &index[0..length(odd, 14, JIS, index.len())],
         &extras[0..length(odd, 15, EXTRAS, extras.len())],
-        &weights[0..length(odd, 16, weights::COUNT, weights.len())],
+        &weights[0..length(odd, 16, lengths::WEIGHTS, weights.len())],
     )
 }

@@ -154,6 +154,6 @@ pub(crate) fn run(
         &index[0..exact(EUC_KR, index.len())],
         &index[0..exact(JIS, index.len())],
         &extras[0..exact(EXTRAS, extras.len())],
-        &weights[0..exact(weights::COUNT, weights.len())],
+        &weights[0..exact(lengths::WEIGHTS, weights.len())],
     ));
 }

@@ -78,7 +78,7 @@ fn limit(
 ) {
     let chunk = groups::bytes();
     let len = groups::size(size);
-    let state = after(met, order::LIMIT - short % 8, false);
+    let state = after(met, lengths::LIMIT - short % 8, false);
     let fed = lent::fed(
         state,
         &chunk[0..len],
@@ -194,7 +194,7 @@ pub(crate) fn all(
 
 // Any of these things wrong at once: bit 3 the state, bit 2 closed, bit 1 a slice, bit 0 too long.
 fn wrong(i: usize) -> State {
-    let bytes = if i % 2 == 1 { order::LIMIT } else { 10 };
+    let bytes = if i % 2 == 1 { lengths::LIMIT } else { 10 };
     let state = after(2, bytes, i / 4 % 2 == 1);
     if i / 8 % 2 == 1 {
         return build::with_place(state, 6, build::fresh(5), Score::Live(0));

@@ -4,11 +4,11 @@ use crate::lent;
 use crate::lent::Odd;
 use crate::same;
 use crate::sheet;
-use lengths::tests::both;
 use places::place::Place;
 use places::slate;
 use state;
 use state::State;
+use tables::tests::both;
 
 // All eight places live before its eighth byte, seven before its twelfth, six to its end.
 fn stream() -> [u8; 16] {

@@ -6,7 +6,7 @@ use Prim.Native.Nat.{ℕ}
 use lib.Dec.{eqb}
 use lib.IntN.{ℤ}
 use lib.ListN.{length}
-use Rattle.weights.specs.Weights.{weightCount}
+use Rattle.lengths.specs.Lengths.{classCount, markCount, pairCount, weightCount}
 
 pub record Lent : Type 0 where
   pub classes : List ℕ
@@ -19,10 +19,10 @@ lent c m p w = record { classes = c; marks = m; pairs = p; weights = w }
 
 -- lengths are exact
 pub record Sized (t : Lent) : Type 0 where
-  pub classes-length : length (t .classes) ≡ 256
-  pub marks-length : length (t .marks) ≡ 128
-  pub pairs-length : length (t .pairs) ≡ 16384
+  pub classes-length : length (t .classes) ≡ classCount
+  pub marks-length : length (t .marks) ≡ markCount
+  pub pairs-length : length (t .pairs) ≡ pairCount
   pub weights-length : length (t .weights) ≡ weightCount
 
 unfoldable pub sizedB : Lent → Bool
-sizedB t = eqb (length (t .classes)) 256 && (eqb (length (t .marks)) 128 && (eqb (length (t .pairs)) 16384 && eqb (length (t .weights)) weightCount))
+sizedB t = eqb (length (t .classes)) classCount && (eqb (length (t .marks)) markCount && (eqb (length (t .pairs)) pairCount && eqb (length (t .weights)) weightCount))

@@ -14,8 +14,6 @@ ghost use Rattle.single.specs.Words.{in64, wordsOf};
 pub const LATIN_LETTER: u8 = 1;
 
 pub const NO_CLASS: u8 = 255;
-// A count at the entry of a call is at most this, so that no run makes it wrap.
-pub const ROOM: u64 = 4611686018427387904;
 
 pub struct Words {
     pub current: u64,
@@ -26,16 +24,16 @@ pub struct Words {
 fn is_sized(classes: &[u8], marks: &[u8], pairs: &[i16], weights: &[i32]) -> bool
     ensures { λ r. ⌜ r ≡ sizedB (lent (now (classes .entry)) (now (marks .entry)) (now (pairs .entry)) (now (weights .entry))) ⌝ }
 {
-    if classes.len() != 256 {
+    if classes.len() != lengths::CLASSES {
         return false;
     }
-    if marks.len() != 128 {
+    if marks.len() != lengths::MARKS {
         return false;
     }
-    if pairs.len() != 16384 {
+    if pairs.len() != lengths::PAIRS {
         return false;
     }
-    weights.len() == weights::COUNT
+    weights.len() == lengths::WEIGHTS
 }
 
 // Whether n bytes can have led to the fields that the four records share.
@@ -64,7 +62,7 @@ pub fn is_fit(
 {
     if is_sized(classes, marks, pairs, weights) {
         if sound {
-            return bytes <= 268435456;
+            return bytes <= lengths::MOST;
         }
     }
     false

@@ -3,9 +3,9 @@ ghost use mathlib.Core.Path.{_≡_};
 ghost use Rattle.state.specs.State.{fresh, flagOf, triggered};
 ghost use Rattle.state.specs.Order.{plainB, savedB, frontB};
 use context::Context;
-use lengths::tests::both;
-use lengths::tests::either;
 use places::order;
+use tables::tests::both;
+use tables::tests::either;
 
 pub struct Front {
     pub context: Context,
@@ -49,7 +49,7 @@ impl Front {
         let context = self.context;
         let saved = both(context.len as u64 <= self.bytes, is_saved(context));
         both(
-            self.bytes <= order::LIMIT,
+            self.bytes <= lengths::LIMIT,
             both(self.non_ascii_seen <= self.bytes, saved),
         )
     }

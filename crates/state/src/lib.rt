@@ -8,10 +8,10 @@ pub mod leader;
 pub mod reply;
 
 use front::Front;
-use lengths::tests::both;
 use places::order;
 use places::place::Slate;
 use places::slate;
+use tables::tests::both;
 
 pub struct State {
     pub front: Front,

@@ -19,7 +19,7 @@ use denote.Slice.{ShrSlice, slice-vals, shr-slice-tells, shr-slice-lawful}
 use denote.Struct.Laws as LL
 use denote.Triple.End.{Fins}
 use denote.Triple.Entry.{Args}
-use Rattle.lengths.specs.Tables.{Tables, single, singles, tables}
+use Rattle.tables.specs.Tables.{Tables, single, singles, tables}
 use Rattle.state.proofs.front.Front as F
 use Rattle.places.proofs.place.Place as P
 use Rattle.places.proofs.place.Place.Laws as P′

@@ -2,7 +2,7 @@
 use mathlib.Core.Bool.{Bool}
 use mathlib.Core.List.{List}
 use Prim.Native.Nat.{ℕ}
-use Rattle.lengths.specs.Tables.{Tables}
+use Rattle.tables.specs.Tables.{Tables}
 use Rattle.places.specs.declared.place.Place.{Place}
 use Rattle.detector.specs.Feed.{feedOf}
 use Rattle.detector.specs.declared.feed.Fed.{Fed}

@@ -3,7 +3,7 @@ use mathlib.Core.Path.{_≡_, sym, ap}
 use mathlib.Core.Bool.{Bool}
 use mathlib.Core.List.{List}
 use Prim.Native.Nat.{ℕ}
-use Rattle.lengths.specs.Tables.{Tables}
+use Rattle.tables.specs.Tables.{Tables}
 use Rattle.places.specs.declared.place.Place.{Place}
 use Rattle.detector.specs.Feed.{refusalOf}
 use Rattle.detector.specs.FeedLaws.{feed-refused}

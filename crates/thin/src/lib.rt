@@ -1,7 +1,7 @@
 // The thin form of a feed, for a loop that keeps the front in one place: the front is lent by `&mut`, the places go in and
 // come back by value.
 ghost use mathlib.Core.Path.{_≡_};
-ghost use Rattle.lengths.specs.Tables.{single, singles, tables};
+ghost use Rattle.tables.specs.Tables.{single, singles, tables};
 ghost use Rattle.thin.specs.Thin.{steppedOf, thinOf, frontAfter};
 use detector::feed;
 use places::place::Slate;

@@ -15,9 +15,6 @@ use Rattle.utf8.specs.declared.Ran.{Ran}
 use Rattle.utf8.specs.declared.Ran.the-variants.{Live, Dropped, Unfit}
 
 -- nothing is carried by a machine that dropped out
-abbrev pub Outcome : Type 0
-Outcome = Outcome Utf8
-
 -- ---- records
 -- n bytes are needed, the next of them from lo to hi
 abbrev pub needs : ℕ → ℕ → ℕ → Utf8
@@ -47,14 +44,14 @@ soundB m =
     (cond (eqb (m .need) 3) (nextCut m 0x90 0x8F) false))
 
 -- ---- one byte
-abbrev pub alive : Utf8 → Outcome
+abbrev pub alive : Utf8 → Outcome Utf8
 alive m = live m (pos 0)
 
-abbrev pub dropped : Outcome
+abbrev pub dropped : Outcome Utf8
 dropped = none dropout
 
 -- a byte where a sequence begins
-unfoldable pub leadOf : ℕ → Outcome
+unfoldable pub leadOf : ℕ → Outcome Utf8
 leadOf b =
     cond (between 0x00 0x7F b) (alive fresh)
     (cond (between 0xC2 0xDF b) (alive (needs 1 0x80 0xBF))
@@ -63,22 +60,22 @@ leadOf b =
     dropped)))
 
 -- a byte within one
-unfoldable pub trailOf : Utf8 → ℕ → Outcome
+unfoldable pub trailOf : Utf8 → ℕ → Outcome Utf8
 trailOf m b = cond (between (m .lo) (m .hi) b) (alive (needs (m .need - 1) 0x80 0xBF)) dropped
 
-unfoldable pub stepOf : Utf8 → ℕ → Outcome
+unfoldable pub stepOf : Utf8 → ℕ → Outcome Utf8
 stepOf m b = cond (eqb (m .need) 0) (leadOf b) (trailOf m b)
 
 -- ---- the end of the stream
-unfoldable pub closeOf : Utf8 → Outcome
+unfoldable pub closeOf : Utf8 → Outcome Utf8
 closeOf m = cond (eqb (m .need) 0) (alive m) dropped
 
 -- ---- the code's answers
-abbrev pub outOf : Stepped → Outcome
+abbrev pub outOf : Stepped → Outcome Utf8
 outOf (Alive m g) = live m g
 outOf Invalid = dropped
 
-unfoldable pub ranAs : Outcome → Ran
+unfoldable pub ranAs : Outcome Utf8 → Ran
 ranAs (none d) = Dropped
 ranAs (live m s) = Live m
 

@@ -10,14 +10,14 @@ use lib.ListN.{length}
 use borrow.Author.Tests.{eq-eqb, ne-eqb, eqb-true, le-leb, lt-leb, leb-true, leb-false}
 use Rattle.laws.specs.Lists.{any}
 use Rattle.laws.specs.Limit.{limit}
-use Rattle.laws.specs.Run.{live, run, run-append}
+use Rattle.laws.specs.Run.{Outcome, live, run, run-append}
 use Rattle.laws.specs.Tests.{both, either}
 use Rattle.laws.specs.Still.{Lives, Ends, none-live, run-ends, run-stays}
 use Rattle.octets.specs.Octets.{between, nonAscii}
 use Rattle.octets.specs.BetweenLaws.{inside, below, above}
 use Rattle.utf8.specs.declared.Utf8.{Utf8}
 use Rattle.utf8.specs.declared.Ran.the-variants.{Live, Dropped, Unfit}
-use Rattle.utf8.specs.Utf8.{Outcome, needs, fresh, Sound, plain, after-E0, after-ED, after-F0, after-F4, nextIn, nextCut, soundB, alive, dropped, leadOf, trailOf, stepOf, closeOf, ranAs, Ready, readyB, ranOf, closedOf}
+use Rattle.utf8.specs.Utf8.{needs, fresh, Sound, plain, after-E0, after-ED, after-F0, after-F4, nextIn, nextCut, soundB, alive, dropped, leadOf, trailOf, stepOf, closeOf, ranAs, Ready, readyB, ranOf, closedOf}
 
 -- ---- each way through a byte that begins a sequence
 module _ (b : ℕ) where
@@ -122,7 +122,7 @@ cut-range n lo hi k l b apart h p q = at (eqb b k) (eqb b l) refl refl
 pub fresh-sound : Sound fresh
 fresh-sound = plain {n = 0} (omega arith)
 
-abbrev Kept : Outcome → Type 0
+abbrev Kept : Outcome Utf8 → Type 0
 Kept o = Ends Sound (pos 0) o
 
 lead-sound : (b : ℕ) → Kept (leadOf b)
@@ -156,7 +156,7 @@ pub run-keeps : (m : Utf8) (s : ℤ) (xs : List ℕ) → Sound m → Ends Sound 
 run-keeps m s xs h = run-ends stepOf Sound step-keeps s (live m s) xs (h, refl)
 
 -- ---- joining, by the law of every machine
-pub run-joins : (o : Outcome) (xs ys : List ℕ) → run stepOf o (xs ++ ys) ≡ run stepOf (run stepOf o xs) ys
+pub run-joins : (o : Outcome Utf8) (xs ys : List ℕ) → run stepOf o (xs ++ ys) ≡ run stepOf (run stepOf o xs) ys
 run-joins o xs ys = run-append stepOf o xs ys
 
 -- ---- ASCII leaves the record fresh

@@ -10,7 +10,7 @@ use lib.Dec.{T, eqb, ltb, leb, eqb→eq, leb→le}
 use lib.IntN.{ℤ, pos, negsuc, +ℤ-idr}
 use lib.ListN.{length}
 use borrow.Author.Tests.{ltb-true, ltb-false}
-use Rattle.laws.specs.Run.{none, live, plus, run, run-append, run-nil, ended}
+use Rattle.laws.specs.Run.{Outcome, none, live, plus, run, run-append, run-nil, ended}
 use Rattle.laws.specs.Still.{Lives, lives, lives-begun, from-zero, run-first, run-drops, none-live, plus-live, ended-live}
 use Rattle.laws.specs.Validator.{decoded}
 use Rattle.laws.specs.Table.{and-left, and-right, every, nothing, within}
@@ -18,7 +18,7 @@ use Rattle.octets.specs.Octets.{between}
 use Rattle.octets.specs.BetweenLaws.{between-low, between-high}
 use Rattle.utf8.specs.declared.Utf8.{Utf8}
 use Rattle.utf8.specs.WellFormed.{Range, _to_, Row, table, Fits, FitsOne, WellFormed, Text, empty, then, Cut, Streams}
-use Rattle.utf8.specs.Utf8.{Outcome, needs, fresh, alive, dropped, leadOf, stepOf, closeOf}
+use Rattle.utf8.specs.Utf8.{needs, fresh, alive, dropped, leadOf, stepOf, closeOf}
 use Rattle.utf8.specs.Standard.{initial, handler}
 use Rattle.utf8.specs.Agreement.{outcomeOf}
 use Rattle.utf8.specs.AgreementLaws.{stream-agrees}
@@ -34,7 +34,7 @@ abbrev isZero : ℤ → Bool
 isZero (pos n) = eqb n 0
 isZero (negsuc n) = false
 
-abbrev same : Utf8 → Outcome → Bool
+abbrev same : Utf8 → Outcome Utf8 → Bool
 same m (none d) = false
 same m (live n s) = eqb (n .need) (m .need) && (eqb (n .lo) (m .lo) && (eqb (n .hi) (m .hi) && isZero s))
 
@@ -42,7 +42,7 @@ zero-is : (s : ℤ) → T (isZero s) → s ≡ pos 0
 zero-is (pos n) t = ap pos (eqb→eq n 0 t)
 zero-is (negsuc n) t = absurd t
 
-same-is : (m : Utf8) (o : Outcome) → T (same m o) → o ≡ alive m
+same-is : (m : Utf8) (o : Outcome Utf8) → T (same m o) → o ≡ alive m
 same-is m (none d) t = absurd t
 same-is m (live n s) t =
     let u = and-right (eqb (n .need) (m .need)) _ t in
@@ -153,7 +153,7 @@ well-formed-run bs f = rows-run table bs goods f
 text-run : (xs : List ℕ) → Text xs → run stepOf (alive fresh) xs ≡ alive fresh
 text-run xs empty = run-nil stepOf (alive fresh)
 text-run xs (then u {xs = ys} w t) =
-    run-append stepOf (alive fresh) u ys ∙ (ap (λ (o : Outcome). run stepOf o ys) (well-formed-run u w) ∙ text-run ys t)
+    run-append stepOf (alive fresh) u ys ∙ (ap (λ (o : Outcome Utf8). run stepOf o ys) (well-formed-run u w) ∙ text-run ys t)
 
 -- ---- what lives, the table makes
 firstIn : Row → ℕ → Bool
@@ -164,7 +164,7 @@ anyFirst : List Row → ℕ → Bool
 anyFirst [] b = false
 anyFirst (row ∷ rows) b = firstIn row b || anyFirst rows b
 
-isNone : Outcome → Bool
+isNone : Outcome Utf8 → Bool
 isNone (none d) = true
 isNone (live m s) = false
 
@@ -243,7 +243,7 @@ settle : (m : Utf8) (xs : List ℕ) (first : List ℕ) (rs : Row) (s : ℤ) → 
 settle m xs first [] s p f e rest = more m first xs (rw append-nil at (f [] tt)) (rest [] [] s between-two e)
 settle m xs first (r ∷ rs) s p f e rest = rest first (r ∷ rs) s (within-one p f) e
 
-none-is : (o : Outcome) → T (isNone o) → o ≡ dropped
+none-is : (o : Outcome Utf8) → T (isNone o) → o ≡ dropped
 unfolding isNone
 none-is (none d) t = refl
 none-is (live m s) t = absurd t
@@ -292,7 +292,7 @@ module _ (s : ℤ) (xs : List ℕ) where
       let c = o .cut in
       let w : run stepOf (live fresh s) (o .ending ++ (c .next ∷ c .others)) ≡ live fresh s = lives stepOf fresh fresh s (o .ending ++ (c .next ∷ c .others)) (well-formed-run (o .ending ++ (c .next ∷ c .others)) (c .whole)) in
       let l = lives-begun stepOf (live fresh s) (o .ending) (c .next ∷ c .others) (fresh, (s, w)) in
-      let q : run stepOf (live fresh s) xs ≡ run stepOf (live fresh s) (o .ending) = ap (run stepOf (live fresh s)) (o .parts) ∙ (run-append stepOf (live fresh s) (o .sequences) (o .ending) ∙ ap (λ (p : Outcome). run stepOf p (o .ending)) (lives stepOf fresh fresh s (o .sequences) (text-run (o .sequences) (o .text)))) in
+      let q : run stepOf (live fresh s) xs ≡ run stepOf (live fresh s) (o .ending) = ap (run stepOf (live fresh s)) (o .parts) ∙ (run-append stepOf (live fresh s) (o .sequences) (o .ending) ∙ ap (λ (p : Outcome Utf8). run stepOf p (o .ending)) (lives stepOf fresh fresh s (o .sequences) (text-run (o .sequences) (o .text)))) in
       (l .0, (l .1 .0, q ∙ l .1 .1))
 
   read-at : (m : Utf8) (t : ℤ) → run stepOf (live fresh s) xs ≡ live m t → Read m xs

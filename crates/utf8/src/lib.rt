@@ -30,8 +30,6 @@ impl Utf8 {
 
     pub const UPPER: u8 = 0xBF;
 
-    pub const MOST: usize = 268_435_456;
-
     pub fn fresh() -> Utf8
         ensures { λ r. ⌜ r ≡ fresh ⌝ }
     {
@@ -151,7 +149,7 @@ impl Utf8 {
         ensures { λ r. ⌜ r ≡ ranOf self (now (part .entry)) ⌝ }
     {
         if self.is_sound() {
-            if part.len() <= Utf8::MOST {
+            if part.len() <= lengths::MOST {
                 return self.go(part);
             }
         }

@@ -42,9 +42,6 @@ placeOf macKorean = 14
 placeOf eucKrExtension = 15
 placeOf longWord = 16
 
-abbrev pub weightCount : ℕ
-weightCount = 17
-
 -- the weight, of a list that has them all
 abbrev pub weightOf : List ℤ → Weight → ℤ
 weightOf weights w = getD weights (placeOf w) (pos 0)

@@ -5,8 +5,6 @@ ghost use lib.IntN.{pos, natAbs};
 ghost use lib.ListN.{getD};
 ghost use Rattle.weights.specs.Weights.{term};
 
-pub const COUNT: usize = 17;
-
 pub const CASE: usize = 0;
 
 pub const LATIN_ADJACENCY: usize = 1;

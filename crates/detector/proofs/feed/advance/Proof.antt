@@ -5,7 +5,7 @@ use Prim.Native.Nat.{ℕ, _-_, _≤_}
 use native.Mathlib.Omega.{arith}
 use lib.ListN.{length, take, drop, length-take, length-drop}
 use Rattle.laws.specs.Lists.{rest-is}
-use Rattle.lengths.specs.Tables.{Tables, single, singles, tables}
+use Rattle.tables.specs.Tables.{Tables, single, singles, tables}
 use Rattle.detector.specs.FeedLaws.{way-nothing, way-part, way-after}
 use Rattle.detector.specs.Front.{triggerOf, uncounted}
 use Rattle.detector.specs.Due.{DueBy, Roomy}

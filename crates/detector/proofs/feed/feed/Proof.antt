@@ -1,7 +1,7 @@
 -- `feed` meets its contract. Assumes nothing.
 use mathlib.Core.Path.{_≡_, sym, _∙_}
 use lib.ListN.{length}
-use Rattle.lengths.specs.Tables.{Tables, single, singles, tables, sizedB}
+use Rattle.tables.specs.Tables.{Tables, single, singles, tables, sizedB}
 use Rattle.detector.specs.Feed.{refusalOf}
 use Rattle.detector.specs.FeedLaws.{refused-stays, accept-fit, feed-refused, feed-accepted}
 use borrow.Author.Needs.{needs}

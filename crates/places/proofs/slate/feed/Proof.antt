@@ -1,7 +1,7 @@
 -- `feed` meets its contract. Assumes nothing.
 use mathlib.Core.Path.{_≡_, sym, _∙_}
 use mathlib.Core.Bool.{Bool, true, false}
-use Rattle.lengths.specs.Tables.{Tables, single, singles, tables}
+use Rattle.tables.specs.Tables.{Tables, single, singles, tables}
 use Rattle.places.specs.Slate.{fitB}
 use Rattle.places.specs.SlateLaws.{fit-true, Fit, slated-at}
 use borrow.Author.Needs.{needs}

@@ -2,7 +2,7 @@
 use Prim.Native.Nat.{_-_}
 use native.Mathlib.Omega.{arith}
 use borrow.Author.Needs.{needs}
-use Rattle.lengths.specs.Tables.{Tables, single, singles, tables}
+use Rattle.tables.specs.Tables.{Tables, single, singles, tables}
 use Rattle.places.specs.SlateLaws.{Feeding, feeding-start, feeding-fit, feeding-next, feeding-done}
 use Rattle.places.proofs.slate.feed_each.Statement.{statement}
 use Rattle.places.proofs.slate.feed_each.Tie as tie

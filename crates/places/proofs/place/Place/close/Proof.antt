@@ -6,7 +6,7 @@ use mir.Syntax.{w64}
 use Rattle.laws.specs.Limit.{limit}
 use Rattle.laws.specs.Sizes.{thru}
 use Rattle.weights.specs.Weights.{perByte}
-use Rattle.lengths.specs.Tables.{Singles, single, singles}
+use Rattle.tables.specs.Tables.{Singles, single, singles}
 use Rattle.places.specs.PlaceLaws.{end-none, ended-none, fit-sum, end-way}
 use borrow.Author.Needs.{needs}
 use Rattle.places.proofs.place.Place.close.Statement.{statement}

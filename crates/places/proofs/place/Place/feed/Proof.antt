@@ -5,7 +5,7 @@ use lib.ListN.{length}
 use Prim.Native.Nat.{_*_}
 use Rattle.laws.specs.Sizes.{thru}
 use Rattle.weights.specs.Weights.{perByte}
-use Rattle.lengths.specs.Tables.{Tables, single, singles, tables}
+use Rattle.tables.specs.Tables.{Tables, single, singles, tables}
 use Rattle.places.specs.PlaceLaws.{feed-none, kept-none, fit-sum, sum-room, Fed, fed-way, last-fit, open-way, last-way}
 use borrow.Author.Needs.{needs}
 use Rattle.places.proofs.place.Place.feed.Statement.{statement}

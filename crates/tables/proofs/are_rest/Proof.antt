@@ -1,8 +1,8 @@
 -- `are_rest` meets its contract. Assumes nothing.
-use Rattle.lengths.specs.Tables.{restB}
+use Rattle.tables.specs.Tables.{restB}
 use borrow.Author.Needs.{needs}
-use Rattle.lengths.proofs.are_rest.Statement.{statement}
-use Rattle.lengths.proofs.are_rest.Tie as tie
+use Rattle.tables.proofs.are_rest.Statement.{statement}
+use Rattle.tables.proofs.are_rest.Tie as tie
 
 both-requires : tie.Need-both-requires
 both-requires c κs = search needs

@@ -8,14 +8,15 @@ use lib.IntN.{ℤ}
 use lib.ListN.{length, getD}
 use borrow.Author.Tests.{eq-eqb, eqb-true}
 use Rattle.laws.specs.Tests.{both}
+use Rattle.lengths.specs.Lengths.{classCount, markCount, pairCount, big5Count, eucKrCount, jisCount, extraCount, weightCount}
 use Rattle.single.specs.Lent.{Lent, Sized as SingleSized}
-use Rattle.lengths.specs.Tables.{Single, Tables, lentTo, lengthsOf, Sized, singleB, restB, sizedB}
+use Rattle.tables.specs.Tables.{Single, Tables, lentTo, lengthsOf, Sized, singleB, restB, sizedB}
 
 -- a single-byte place's own lengths
 pub record SizedOne (s : Single) : Type 0 where
-  pub classes-length : length (s .classes) ≡ 256
-  pub marks-length : length (s .marks) ≡ 128
-  pub pairs-length : length (s .pairs) ≡ 16384
+  pub classes-length : length (s .classes) ≡ classCount
+  pub marks-length : length (s .marks) ≡ markCount
+  pub pairs-length : length (s .pairs) ≡ pairCount
 
 single-true : (s : Single) → singleB s ≡ true → SizedOne s
 unfolding singleB
@@ -34,11 +35,11 @@ pub record Lengths (t : Tables) : Type 0 where
   pub logical : SizedOne (t .singles .logical)
   pub visual : SizedOne (t .singles .visual)
   pub arabicFrench : SizedOne (t .singles .arabicFrench)
-  pub big5-length : length (t .big5) ≡ 19782
-  pub euckr-length : length (t .euckr) ≡ 23940
-  pub jis-length : length (t .jis) ≡ 8836
-  pub extras-length : length (t .extras) ≡ 11172
-  pub weights-length : length (t .weights) ≡ 17
+  pub big5-length : length (t .big5) ≡ big5Count
+  pub euckr-length : length (t .euckr) ≡ eucKrCount
+  pub jis-length : length (t .jis) ≡ jisCount
+  pub extras-length : length (t .extras) ≡ extraCount
+  pub weights-length : length (t .weights) ≡ weightCount
 
 module _ (t : Tables) where
   at : {xs ys : List ℕ} (k : ℕ) → xs ≡ ys → getD xs k 0 ≡ getD ys k 0
@@ -126,5 +127,5 @@ module _ (t : Tables) where
       )
 
 -- as a single-byte machine asks for it
-pub single-sized : (s : Single) (w : List ℤ) → SizedOne s → length w ≡ 17 → SingleSized (lentTo s w)
+pub single-sized : (s : Single) (w : List ℤ) → SizedOne s → length w ≡ weightCount → SingleSized (lentTo s w)
 single-sized s w o e = record { classes-length = o .classes-length; marks-length = o .marks-length; pairs-length = o .pairs-length; weights-length = e }

@@ -6,6 +6,7 @@ use Prim.Native.Nat.{ℕ}
 use lib.Dec.{eqb}
 use lib.IntN.{ℤ}
 use lib.ListN.{length}
+use Rattle.lengths.specs.Lengths.{classCount, markCount, pairCount, big5Count, eucKrCount, jisCount, extraCount, weightCount}
 use Rattle.single.specs.Lent.{Lent, lent}
 
 -- ---- each table's length, and the bytes of an entry; its number is its place in the list
@@ -18,7 +19,7 @@ rule n w = record { entries = n; width = w }
 
 abbrev pub rules : List Rule
 rules =
-    rule 256 1 ∷ rule 128 1 ∷ rule 16384 2 ∷ rule 256 1 ∷ rule 128 1 ∷ rule 16384 2 ∷ rule 256 1 ∷ rule 128 1 ∷ rule 16384 2 ∷ rule 256 1 ∷ rule 128 1 ∷ rule 16384 2 ∷ rule 19782 4 ∷ rule 23940 4 ∷ rule 8836 4 ∷ rule 11172 2 ∷ rule 17 4 ∷ []
+    rule classCount 1 ∷ rule markCount 1 ∷ rule pairCount 2 ∷ rule classCount 1 ∷ rule markCount 1 ∷ rule pairCount 2 ∷ rule classCount 1 ∷ rule markCount 1 ∷ rule pairCount 2 ∷ rule classCount 1 ∷ rule markCount 1 ∷ rule pairCount 2 ∷ rule big5Count 4 ∷ rule eucKrCount 4 ∷ rule jisCount 4 ∷ rule extraCount 2 ∷ rule weightCount 4 ∷ []
 
 -- ---- the lists
 -- what a single-byte place is lent
@@ -68,10 +69,10 @@ pub record Sized (t : Tables) : Type 0 where
 
 -- the test of a place's own, and of the rest
 unfoldable pub singleB : Single → Bool
-singleB s = eqb (length (s .classes)) 256 && (eqb (length (s .marks)) 128 && eqb (length (s .pairs)) 16384)
+singleB s = eqb (length (s .classes)) classCount && (eqb (length (s .marks)) markCount && eqb (length (s .pairs)) pairCount)
 
 unfoldable pub restB : List ℕ → List ℕ → List ℕ → List ℤ → List ℤ → Bool
-restB b e j x w = eqb (length b) 19782 && (eqb (length e) 23940 && (eqb (length j) 8836 && (eqb (length x) 11172 && eqb (length w) 17)))
+restB b e j x w = eqb (length b) big5Count && (eqb (length e) eucKrCount && (eqb (length j) jisCount && (eqb (length x) extraCount && eqb (length w) weightCount)))
 
 unfoldable pub sizedB : Tables → Bool
 sizedB t =

@@ -1,8 +1,8 @@
 -- `is_single` meets its contract. Assumes nothing.
-use Rattle.lengths.specs.Tables.{singleB}
+use Rattle.tables.specs.Tables.{singleB}
 use borrow.Author.Needs.{needs}
-use Rattle.lengths.proofs.is_single.Statement.{statement}
-use Rattle.lengths.proofs.is_single.Tie as tie
+use Rattle.tables.proofs.is_single.Statement.{statement}
+use Rattle.tables.proofs.is_single.Tie as tie
 
 both-requires : tie.Need-both-requires
 both-requires c κs = search needs

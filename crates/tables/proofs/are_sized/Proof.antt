@@ -1,8 +1,8 @@
 -- `are_sized` meets its contract. Assumes nothing.
-use Rattle.lengths.specs.Tables.{sizedB}
+use Rattle.tables.specs.Tables.{sizedB}
 use borrow.Author.Needs.{needs}
-use Rattle.lengths.proofs.are_sized.Statement.{statement}
-use Rattle.lengths.proofs.are_sized.Tie as tie
+use Rattle.tables.proofs.are_sized.Statement.{statement}
+use Rattle.tables.proofs.are_sized.Tie as tie
 
 are-rest-requires : tie.Need-are-rest-requires
 are-rest-requires c κs = search needs

@@ -1,0 +1,61 @@
+// The seventeen lent tables: their lengths, in document 01's order.
+ghost use mathlib.Core.Path.{_≡_};
+ghost use Rattle.tables.specs.Tables.{single, singles, tables, singleB, restB, sizedB};
+
+pub mod tests;
+
+use tests::both;
+
+fn is_single(classes: &[u8], marks: &[u8], pairs: &[i16]) -> bool
+    ensures { λ r. ⌜ r ≡ singleB (single (now (classes .entry)) (now (marks .entry)) (now (pairs .entry))) ⌝ }
+{
+    both(
+        classes.len() == lengths::CLASSES,
+        both(marks.len() == lengths::MARKS, pairs.len() == lengths::PAIRS),
+    )
+}
+
+fn are_rest(big5: &[u32], euckr: &[u32], jis: &[u32], extras: &[i16], weights: &[i32]) -> bool
+    ensures { λ r. ⌜ r ≡ restB (now (big5 .entry)) (now (euckr .entry)) (now (jis .entry)) (now (extras .entry)) (now (weights .entry)) ⌝ }
+{
+    let numbers = both(
+        extras.len() == lengths::EXTRAS,
+        weights.len() == lengths::WEIGHTS,
+    );
+    both(
+        big5.len() == lengths::BIG5,
+        both(
+            euckr.len() == lengths::EUC_KR,
+            both(jis.len() == lengths::JIS, numbers),
+        ),
+    )
+}
+
+// Whether every lent length is exact.
+pub fn are_sized(
+    classes4: &[u8],
+    marks4: &[u8],
+    pairs4: &[i16],
+    classes5: &[u8],
+    marks5: &[u8],
+    pairs5: &[i16],
+    classes6: &[u8],
+    marks6: &[u8],
+    pairs6: &[i16],
+    classes7: &[u8],
+    marks7: &[u8],
+    pairs7: &[i16],
+    big5: &[u32],
+    euckr: &[u32],
+    jis: &[u32],
+    extras: &[i16],
+    weights: &[i32],
+) -> bool
+    ensures { λ r. ⌜ r ≡ sizedB (tables (singles (single (now (classes4 .entry)) (now (marks4 .entry)) (now (pairs4 .entry))) (single (now (classes5 .entry)) (now (marks5 .entry)) (now (pairs5 .entry))) (single (now (classes6 .entry)) (now (marks6 .entry)) (now (pairs6 .entry))) (single (now (classes7 .entry)) (now (marks7 .entry)) (now (pairs7 .entry)))) (now (big5 .entry)) (now (euckr .entry)) (now (jis .entry)) (now (extras .entry)) (now (weights .entry))) ⌝ }
+{
+    let rest = are_rest(big5, euckr, jis, extras, weights);
+    let last = both(is_single(classes7, marks7, pairs7), rest);
+    let third = both(is_single(classes6, marks6, pairs6), last);
+    let second = both(is_single(classes5, marks5, pairs5), third);
+    both(is_single(classes4, marks4, pairs4), second)
+}
