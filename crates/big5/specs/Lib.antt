@@ -3,5 +3,5 @@ pub mod Big5
 pub mod Ways
 pub mod Big5Laws
 pub mod HeldLaws
-pub mod AsciiLaws
+pub mod HeadLaws
 pub mod Edges

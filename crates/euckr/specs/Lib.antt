@@ -3,5 +3,5 @@ pub mod EucKr
 pub mod Ways
 pub mod EucKrLaws
 pub mod HeldLaws
-pub mod AsciiLaws
+pub mod HeadLaws
 pub mod Edges

@@ -8,14 +8,14 @@ use native.Mathlib.Omega.{arith}
 use lib.Dec.{eqb, leb, ltb}
 use lib.IntN.{ℤ, pos}
 use lib.ListN.{length}
-use borrow.Author.Tests.{eq-eqb, ne-eqb, eqb-true, le-leb, lt-leb, leb-true, leb-false, ltb-true, ltb-false, not-true}
+use borrow.Author.Tests.{eq-eqb, ne-eqb, eqb-true, le-leb, lt-leb, leb-true, ltb-true, ltb-false, not-true}
 use Rattle.laws.specs.Lists.{any, isIn}
 use Rattle.lengths.specs.Lengths.{jisCount}
 use Rattle.laws.specs.Limit.{limit}
 use Rattle.laws.specs.Run.{Outcome, live, run, run-append}
-use Rattle.laws.specs.Still.{Ends, run-ends, run-stays}
+use Rattle.laws.specs.Still.{Ends, run-ends}
 use Rattle.laws.specs.Tests.{both, neither, either}
-use Rattle.octets.specs.Octets.{between, nonAscii}
+use Rattle.octets.specs.Octets.{between}
 use Rattle.octets.specs.BetweenLaws.{inside, below, above, between-low, between-high}
 use Rattle.iso2022jp.specs.declared.DecoderState.{DecoderState}
 use Rattle.iso2022jp.specs.declared.DecoderState.the-variants.{Ascii, Roman, Katakana, LeadByte, TrailByte, EscapeStart, Escape}
@@ -183,20 +183,6 @@ module _ (index : List ℕ) where
   -- ---- joining, by the law of every machine
   pub run-joins : (o : Outcome Iso2022Jp) (xs ys : List ℕ) → run (stepOf index) o (xs ++ ys) ≡ run (stepOf index) (run (stepOf index) o xs) ys
   run-joins o xs ys = run-append (stepOf index) o xs ys
-
--- ---- ASCII without escape, shift out and shift in leaves the record fresh
-abbrev pub stirs : ℕ → Bool
-stirs b = nonAscii b || isIn (0x0E ∷ 0x0F ∷ escapeByte ∷ []) b
-
-quiet-text : (b : ℕ) → stirs b ≡ false → isText b ≡ true
-unfolding isText
-quiet-text b e =
-    let q = neither (nonAscii b) _ e in
-    rw (inside 0x00 0x7F b (omega arith) (omega (arith, leb-false 0x80 b (q .0))), q .1)
-
-pub ascii-stays : (index : List ℕ) (s : ℤ) (xs : List ℕ) → any stirs xs ≡ false → run (stepOf index) (live fresh s) xs ≡ live fresh s
-unfolding Passes
-ascii-stays index s xs e = run-stays (stepOf index) fresh stirs (λ (b : ℕ) (q : stirs b ≡ false). passes-at OutAscii b (quiet-text b q) index) s xs e
 
 -- ---- what a call gives
 module _ (index : List ℕ) (m : Iso2022Jp) (xs : List ℕ) where

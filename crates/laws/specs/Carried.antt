@@ -1,11 +1,15 @@
--- A machine held in a larger one: its outcomes and its runs are carried over. And what a run keeps of a record. Assumes nothing.
+-- A machine held in a larger one: its outcomes, its runs and what it forgets are carried over. And what a run keeps of a record.
+-- Assumes nothing.
 use mathlib.Core.Path.{_≡_, refl, sym, ap, _∙_}
+use mathlib.Core.Bool.{Bool}
 use mathlib.Core.List.{List, [], _∷_}
 use Prim.Native.Nat.{ℕ, suc, _+_}
 use native.Mathlib.Nat.{add-zero}
 use native.Mathlib.Omega.{arith}
 use lib.IntN.{ℤ}
 use lib.ListN.{length}
+use Rattle.laws.specs.Lists.{last}
+use Rattle.laws.specs.Memory.{Forgets}
 use Rattle.laws.specs.Run.{Out, none, live, plus, feed, run, ended}
 
 module _ {D S T : Type 0} (wrap : S → T) where
@@ -28,6 +32,14 @@ module _ {D S T : Type 0} (wrap : S → T) where
     unfolding run
     run-carried o [] = refl
     run-carried o (x ∷ xs) = ap (λ (p : Out D T). run outer p xs) (feed-carried o x) ∙ run-carried (feed inner o x) xs
+
+    pub forgets-carried : {q : ℕ → Bool} {fresh : S} → Forgets q inner fresh → Forgets q outer (wrap fresh)
+    unfolding carried
+    forgets-carried {q} {fresh} f =
+        record {
+          last-two = λ s bs e. run-carried (live fresh s) bs ∙ (ap carried (f .last-two s bs e) ∙ sym (run-carried (live fresh s) (last 2 bs)));
+          lives = λ bs e. let l = f .lives bs e in (wrap (l .0), λ s. run-carried (live fresh s) bs ∙ ap carried (l .1 s));
+        }
 
 -- ---- P of the record, where the outcome is live
 abbrev pub Holds : {D S : Type 0} → (S → Type 0) → Out D S → Type 0

@@ -1,28 +1,37 @@
--- Quiet bytes: a machine neither drops nor scores at them, and forgets all of them but the last two. So a stretch of them
--- leaves what its last two leave. Assumes nothing.
+-- What a machine forgets. Where it neither drops out nor scores at a byte that passes a test, and two such bytes leave nothing of
+-- what it knew before them, a stretch of them leaves what its last two leave. Assumes nothing.
 use mathlib.Core.Path.{_≡_, refl, sym, ap, _∙_}
-use mathlib.Core.Bool.{Bool, true, _&&_}
+use mathlib.Core.Bool.{Bool, true, false, not, _&&_}
 use mathlib.Core.List.{List, [], _∷_}
 use Prim.Native.Nat.{ℕ, zero, suc, _-_, _≤_}
 use native.Mathlib.Nat.{not-suc-le-zero}
 use native.Mathlib.Omega.{arith}
 use lib.IntN.{ℤ, pos, +ℤ-idr}
 use lib.ListN.{length, drop, length-drop}
-use Rattle.laws.specs.Lists.{last, last-append, last-short}
+use Rattle.laws.specs.Lists.{any, last, last-append, last-short}
 use Rattle.laws.specs.Run.{Out, live, plus, feed, run}
-use Rattle.laws.specs.Tests.{both}
+use Rattle.laws.specs.Tests.{both, neither}
 
 -- each of the bytes passes
 unfoldable pub all : (ℕ → Bool) → List ℕ → Bool
 all q [] = true
 all q (b ∷ bs) = q b && all q bs
 
-module _ (q : ℕ → Bool) where
-  pub all-first : (b : ℕ) (bs : List ℕ) → all q (b ∷ bs) ≡ true → q b ≡ true
-  unfolding all
-  all-first b bs e = both (q b) (all q bs) e .0
+-- from fresh, a run over bytes that all pass is the run over the last two of them; it lives with the score that it had, and with
+-- the same record whatever the score
+pub record Forgets {D S : Type 0} (q : ℕ → Bool) (step : S → ℕ → Out D S) (fresh : S) : Type 0 where
+  pub last-two : (s : ℤ) (bs : List ℕ) → all q bs ≡ true → run step (live fresh s) bs ≡ run step (live fresh s) (last 2 bs)
+  pub lives : (bs : List ℕ) → all q bs ≡ true → (m : S) × ((s : ℤ) → run step (live fresh s) bs ≡ live m s)
 
-  pub all-rest : (b : ℕ) (bs : List ℕ) → all q (b ∷ bs) ≡ true → all q bs ≡ true
+-- why it does: while bytes pass, the record is the one of what was seen of them, and of what was seen before two bytes nothing
+-- is left
+pub record Quiet {D S K : Type 0} (q : ℕ → Bool) (step : S → ℕ → Out D S) (holding : K → S) (seen : K → ℕ → K) : Type 0 where
+  pub steps : (k : K) (b : ℕ) → q b ≡ true → step (holding k) b ≡ live (holding (seen k b)) (pos 0)
+  pub forgotten : (k l : K) (a b : ℕ) → seen (seen k a) b ≡ seen (seen l a) b
+
+-- ---- bytes that all pass
+module _ (q : ℕ → Bool) where
+  all-rest : (b : ℕ) (bs : List ℕ) → all q (b ∷ bs) ≡ true → all q bs ≡ true
   unfolding all
   all-rest b bs e = both (q b) (all q bs) e .1
 
@@ -31,58 +40,63 @@ module _ (q : ℕ → Bool) where
   all-drop (suc n) [] e = e
   all-drop (suc n) (b ∷ bs) e = all-drop n bs (all-rest b bs e)
 
-  pub all-last : (k : ℕ) (bs : List ℕ) → all q bs ≡ true → all q (last k bs) ≡ true
+  all-last : (k : ℕ) (bs : List ℕ) → all q bs ≡ true → all q (last k bs) ≡ true
   unfolding last
   all-last k bs e = all-drop (length bs - k) bs e
 
-last-two : (bs : List ℕ) → 2 ≤ length bs → 2 ≤ length (last 2 bs)
+  -- ---- a test that is passed less often
+  module _ (p : ℕ → Bool) (implies : (b : ℕ) → p b ≡ true → q b ≡ true) where
+    all-more : (bs : List ℕ) → all p bs ≡ true → all q bs ≡ true
+    unfolding all
+    all-more [] e = refl
+    all-more (b ∷ bs) e = let h = both (p b) (all p bs) e in rw (implies b (h .0), all-more bs (h .1))
+
+    pub forgets-less : {D S : Type 0} {step : S → ℕ → Out D S} {fresh : S} → Forgets q step fresh → Forgets p step fresh
+    forgets-less f = record { last-two = λ s bs e. f .last-two s bs (all-more bs e); lives = λ bs e. f .lives bs (all-more bs e) }
+
+-- none passes one test, and none another
+pub all-neither : (p r : ℕ → Bool) (bs : List ℕ) → any p bs ≡ false → any r bs ≡ false → all (λ b. not (p b) && not (r b)) bs ≡ true
+unfolding all any
+all-neither p r [] e f = refl
+all-neither p r (b ∷ bs) e f =
+    let g = neither (p b) (any p bs) e in
+    let h = neither (r b) (any r bs) f in
+    rw (g .0, h .0) (all-neither p r bs (g .1) (h .1))
+
+two-left : (bs : List ℕ) → 2 ≤ length bs → 2 ≤ length (last 2 bs)
 unfolding last
-last-two bs h = rw length-drop (omega arith)
+two-left bs h = rw length-drop (omega arith)
 
--- q is quiet; I holds of the records that quiet bytes lead to, and next gives them
-module _ {D S : Type 0} (step : S → ℕ → Out D S) (next : S → ℕ → S) (I : S → Type 0) (q : ℕ → Bool) where
-  pub record Quiet : Type 0 where
-    pub steps : (m : S) (b : ℕ) → I m → q b ≡ true → step m b ≡ live (next m b) (pos 0)
-    pub keeps : (m : S) (b : ℕ) → I m → q b ≡ true → I (next m b)
-    pub forgets : (m n : S) (a b : ℕ) → I m → I n → q a ≡ true → q b ≡ true → next (next m a) b ≡ next (next n a) b
+-- ---- what is quiet forgets
+module _ {D S K : Type 0} {q : ℕ → Bool} {step : S → ℕ → Out D S} {holding : K → S} {seen : K → ℕ → K} (quiet : Quiet q step holding seen) where
+  -- what was seen after the bytes
+  after : K → List ℕ → K
+  after k [] = k
+  after k (b ∷ bs) = after (seen k b) bs
 
-  -- the record after the bytes
-  unfoldable pub after : S → List ℕ → S
-  after m [] = m
-  after m (b ∷ bs) = after (next m b) bs
+  quiet-run : (k : K) (s : ℤ) (bs : List ℕ) → all q bs ≡ true → run step (live (holding k) s) bs ≡ live (holding (after k bs)) s
+  unfolding all run feed plus after
+  quiet-run k s [] e = refl
+  quiet-run k s (b ∷ bs) e = let h = both (q b) (all q bs) e in rw (quiet .steps k b (h .0), +ℤ-idr) (quiet-run (seen k b) s bs (h .1))
 
-  module _ (quiet : Quiet) where
-    -- the score stays, and nothing is dropped
-    pub quiet-run : (m : S) (s : ℤ) (bs : List ℕ) → I m → all q bs ≡ true → run step (live m s) bs ≡ live (after m bs) s
-    unfolding after run feed plus
-    quiet-run m s [] i e = refl
-    quiet-run m s (b ∷ bs) i e =
-        let t = all-first q b bs e in
-        let f : plus s (step m b) ≡ live (next m b) s = ap (plus s) (quiet .steps m b i t) ∙ ap (live (next m b)) (+ℤ-idr s) in
-        ap (λ (o : Out D S). run step o bs) f ∙ quiet-run (next m b) s bs (quiet .keeps m b i t) (all-rest q b bs e)
+  after-same : (k l : K) (bs : List ℕ) → 2 ≤ length bs → after k bs ≡ after l bs
+  unfolding after
+  after-same k l [] h = absurd (not-suc-le-zero h)
+  after-same k l (a ∷ []) h = absurd (omega (arith, h))
+  after-same k l (a ∷ b ∷ bs) h = ap (λ (x : K). after x bs) (quiet .forgotten k l a b)
 
-    -- two bytes or more leave the same from any two such records
-    after-same : (m n : S) (bs : List ℕ) → 2 ≤ length bs → I m → I n → all q bs ≡ true → after m bs ≡ after n bs
-    unfolding after
-    after-same m n [] h i j e = absurd (not-suc-le-zero h)
-    after-same m n (a ∷ []) h i j e = absurd (omega (arith, h))
-    after-same m n (a ∷ b ∷ []) h i j e = quiet .forgets m n a b i j (all-first q a (b ∷ []) e) (all-first q b [] (all-rest q a (b ∷ []) e))
-    after-same m n (a ∷ b ∷ c ∷ bs) h i j e =
-        let t = all-first q a (b ∷ c ∷ bs) e in
-        after-same (next m a) (next n a) (b ∷ c ∷ bs) (omega arith) (quiet .keeps m a i t) (quiet .keeps n a j t) (all-rest q a (b ∷ c ∷ bs) e)
+  after-last : (k : K) (bs : List ℕ) → after k bs ≡ after k (last 2 bs)
+  unfolding after
+  after-last k [] = ap (after k) (sym (last-short 2 [] (omega arith)))
+  after-last k (a ∷ []) = ap (after k) (sym (last-short 2 (a ∷ []) (omega arith)))
+  after-last k (a ∷ b ∷ []) = ap (after k) (sym (last-short 2 (a ∷ b ∷ []) (omega arith)))
+  after-last k (a ∷ b ∷ c ∷ bs) =
+      let r = b ∷ c ∷ bs in
+      after-last (seen k a) (b ∷ c ∷ bs) ∙ (after-same (seen k a) k (last 2 r) (two-left r (omega arith)) ∙ ap (after k) (sym (last-append 2 (a ∷ []) r (omega arith))))
 
-    after-last : (m : S) (bs : List ℕ) → I m → all q bs ≡ true → after m bs ≡ after m (last 2 bs)
-    unfolding after
-    after-last m [] i e = ap (after m) (sym (last-short 2 [] (omega arith)))
-    after-last m (a ∷ []) i e = ap (after m) (sym (last-short 2 (a ∷ []) (omega arith)))
-    after-last m (a ∷ b ∷ []) i e = ap (after m) (sym (last-short 2 (a ∷ b ∷ []) (omega arith)))
-    after-last m (a ∷ b ∷ c ∷ bs) i e =
-        let r = b ∷ c ∷ bs in
-        let j = quiet .keeps m a i (all-first q a r e) in
-        let f = all-rest q a r e in
-        after-last (next m a) (b ∷ c ∷ bs) j f ∙ (after-same (next m a) m (last 2 r) (last-two r (omega arith)) j i (all-last q 2 r f) ∙ ap (after m) (sym (last-append 2 (a ∷ []) r (omega arith))))
-
-    -- a stretch of quiet bytes leaves what its last two leave
-    pub quiet-last : (m : S) (s : ℤ) (bs : List ℕ) → I m → all q bs ≡ true → run step (live m s) bs ≡ run step (live m s) (last 2 bs)
-    quiet-last m s bs i e =
-        quiet-run m s bs i e ∙ (ap (λ (n : S). live n s) (after-last m bs i e) ∙ sym (quiet-run m s (last 2 bs) i (all-last q 2 bs e)))
+  pub forgets : (k : K) → Forgets q step (holding k)
+  forgets k =
+      record {
+        last-two = λ s bs e. quiet-run k s bs e ∙ (ap (λ (l : K). live (holding l) s) (after-last k bs) ∙ sym (quiet-run k s (last 2 bs) (all-last q 2 bs e)));
+        lives = λ bs e. (holding (after k bs), λ s. quiet-run k s bs e);
+      }

@@ -1,13 +1,10 @@
 -- Machines whose step never changes the score: validators. What a run of one keeps, and where it can end. Assumes nothing.
 use mathlib.Core.Path.{_≡_, refl, sym, ap, _∙_}
-use mathlib.Core.Bool.{Bool, false}
 use mathlib.Core.List.{List, [], _∷_, _++_}
 use Prim.Native.Nat.{ℕ, _+_, _<_}
 use native.Mathlib.Omega.{arith}
 use lib.IntN.{ℤ, pos, _+ℤ_, +ℤ-idr}
 use lib.ListN.{length, getD, drop}
-use Rattle.laws.specs.Lists.{any}
-use Rattle.laws.specs.Tests.{neither}
 use Rattle.laws.specs.Run.{Out, none, live, plus, feed, run, plus-zero, run-append, run-none, run-plus, turn-live, ended}
 
 abbrev pub Lives : {D S : Type 0} → Out D S → Type 0
@@ -61,14 +58,6 @@ module _ {D S : Type 0} (step : S → ℕ → Out D S) where
   -- ---- for a loop: one turn at i
   pub turn-still : (m n : S) (g : ℤ) (xs : List ℕ) (i : ℕ) → i < length xs → step m (getD xs i 0) ≡ live n g → g ≡ pos 0 → run step (live n (pos 0)) (drop (i + 1) xs) ≡ run step (live m (pos 0)) (drop i xs)
   turn-still m n g xs i h e q = turn-live step m (pos 0) xs i h n (pos 0) (e ∙ ap (live n) q)
-
-  -- ---- bytes that leave a record as it is
-  pub run-stays : (m : S) (stirs : ℕ → Bool) → ((b : ℕ) → stirs b ≡ false → step m b ≡ live m (pos 0)) → (s : ℤ) (xs : List ℕ) → any stirs xs ≡ false → run step (live m s) xs ≡ live m s
-  unfolding run feed plus any
-  run-stays m stirs stays s [] e = refl
-  run-stays m stirs stays s (x ∷ xs) e =
-      let q = neither (stirs x) (any stirs xs) e in
-      rw (stays x (q .0), +ℤ-idr) (run-stays m stirs stays s xs (q .1))
 
   -- ---- what begins a stretch that lives, lives
   begun : (o : Out D S) (ys : List ℕ) → Lives (run step o ys) → Lives o

@@ -1,6 +1,7 @@
 pub mod Agreement
 pub mod AgreementLaws
 pub mod Edges
+pub mod HeadLaws
 pub mod Standard
 pub mod Utf8
 pub mod Utf8Laws

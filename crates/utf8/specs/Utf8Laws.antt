@@ -7,13 +7,12 @@ use native.Mathlib.Omega.{arith}
 use lib.Dec.{eqb, leb}
 use lib.IntN.{ℤ, pos}
 use lib.ListN.{length}
-use borrow.Author.Tests.{eq-eqb, ne-eqb, eqb-true, le-leb, lt-leb, leb-true, leb-false}
-use Rattle.laws.specs.Lists.{any}
+use borrow.Author.Tests.{eq-eqb, ne-eqb, eqb-true, le-leb, lt-leb, leb-true}
 use Rattle.laws.specs.Limit.{limit}
 use Rattle.laws.specs.Run.{Outcome, live, run, run-append}
 use Rattle.laws.specs.Tests.{both, either}
-use Rattle.laws.specs.Still.{Lives, Ends, none-live, run-ends, run-stays}
-use Rattle.octets.specs.Octets.{between, nonAscii}
+use Rattle.laws.specs.Still.{Lives, Ends, none-live, run-ends}
+use Rattle.octets.specs.Octets.{between}
 use Rattle.octets.specs.BetweenLaws.{inside, below, above}
 use Rattle.utf8.specs.declared.Utf8.{Utf8}
 use Rattle.utf8.specs.declared.Ran.the-variants.{Live, Dropped, Unfit}
@@ -158,11 +157,6 @@ run-keeps m s xs h = run-ends stepOf Sound step-keeps s (live m s) xs (h, refl)
 -- ---- joining, by the law of every machine
 pub run-joins : (o : Outcome Utf8) (xs ys : List ℕ) → run stepOf o (xs ++ ys) ≡ run stepOf (run stepOf o xs) ys
 run-joins o xs ys = run-append stepOf o xs ys
-
--- ---- ASCII leaves the record fresh
-pub ascii-stays : (s : ℤ) (xs : List ℕ) → any nonAscii xs ≡ false → run stepOf (live fresh s) xs ≡ live fresh s
-unfolding stepOf
-ascii-stays s xs e = run-stays stepOf fresh nonAscii (λ (b : ℕ) (q : nonAscii b ≡ false). sym (lead-ascii b (leb-false 0x80 b q))) s xs e
 
 -- ---- the close: live exactly if nothing is needed
 close-at : (m : Utf8) (t : Bool) → eqb (m .need) 0 ≡ t → Lives (cond t (alive m) dropped) → m .need ≡ 0
