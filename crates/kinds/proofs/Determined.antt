@@ -16,8 +16,8 @@ machine-machine-kind = record { total = λ κs a. tt; one = λ κs a z z′ w w�
 pub machine-machine-renewed : Determined 0 machine-machine-renewed-kinds.ps machine-machine-renewed-kinds.r machine-machine-renewed-reads.Asked machine-machine-renewed-reads.Learnt
 machine-machine-renewed = record { total = λ κs a. tt; one = λ κs a z z′ w w′ p q. (same p q, refl) }
 
-pub machine-machine-run : Determined 18 machine-machine-run-kinds.ps machine-machine-run-kinds.r machine-machine-run-reads.Asked machine-machine-run-reads.Learnt
+pub machine-machine-run : Determined 7 machine-machine-run-kinds.ps machine-machine-run-kinds.r machine-machine-run-reads.Asked machine-machine-run-reads.Learnt
 machine-machine-run = record { total = λ κs a. tt; one = λ κs a z z′ w w′ p q. (same (p .0) (q .0), refl) }
 
-pub machine-machine-close : Determined 13 machine-machine-close-kinds.ps machine-machine-close-kinds.r machine-machine-close-reads.Asked machine-machine-close-reads.Learnt
+pub machine-machine-close : Determined 6 machine-machine-close-kinds.ps machine-machine-close-kinds.r machine-machine-close-reads.Asked machine-machine-close-reads.Learnt
 machine-machine-close = record { total = λ κs a. tt; one = λ κs a z z′ w w′ p q. (same (p .0) (q .0), refl) }

@@ -8,7 +8,7 @@ use Rattle.laws.specs.Carried.{carried, Holds, run-holds}
 use Rattle.laws.specs.Run.{Outcome, none, live, run}
 use Rattle.kinds.specs.Kinds.{kindOf, freshIn, stepOf, closeOf}
 use Rattle.kinds.specs.Sound.{takesSpace, reachOf}
-use Rattle.tables.specs.Tables.{Singles, Tables}
+use Rattle.tables.specs.Own.{Own}
 use Rattle.kinds.specs.declared.machine.Machine.{Machine}
 use Rattle.kinds.specs.declared.machine.Machine.the-variants.{Utf8, Iso2022Jp, EucKr, Big5, Caseless, Logical, Visual, ArabicFrench}
 
@@ -41,9 +41,20 @@ fresh-alike (ArabicFrench m) = refl
 pub alike-kind : (m k : Machine) → Alike m k → kindOf k ≡ kindOf m
 alike-kind m k e = sym (kind-fresh k) ∙ (ap kindOf e ∙ kind-fresh m)
 
+space-fresh : (m : Machine) → takesSpace (freshIn m) ≡ takesSpace m
+unfolding takesSpace freshIn
+space-fresh (Utf8 m) = refl
+space-fresh (Iso2022Jp m) = refl
+space-fresh (EucKr m) = refl
+space-fresh (Big5 m) = refl
+space-fresh (Caseless m) = refl
+space-fresh (Logical m) = refl
+space-fresh (Visual m) = refl
+space-fresh (ArabicFrench m) = refl
+
 pub alike-reach : (m k : Machine) (n : ℕ) (closed : Bool) → Alike m k → reachOf k n closed ≡ reachOf m n closed
-unfolding reachOf takesSpace
-alike-reach m k n closed e = rw (alike-kind m k e)
+unfolding reachOf
+alike-reach m k n closed e = rw (sym (space-fresh k) ∙ (ap takesSpace e ∙ space-fresh m))
 
 pub reach-open : (m : Machine) (n : ℕ) → reachOf m n false ≡ n
 unfolding reachOf
@@ -55,7 +66,7 @@ unfolding carried
 carried-alike wrap m f (none d) = tt
 carried-alike wrap m f (live x s) = f x
 
-module _ (t : Tables) where
+module _ (t : Own) where
   step-alike : (m : Machine) (b : ℕ) → Holds (Alike m) (stepOf t m b)
   unfolding stepOf freshIn
   step-alike (Utf8 m) b = carried-alike Utf8 (Utf8 m) (λ x. refl) _
@@ -74,13 +85,13 @@ module _ (t : Tables) where
   pub run-alike : (m : Machine) (s : ℤ) (xs : List ℕ) → Holds (Alike m) (run (stepOf t) (live m s) xs)
   run-alike m s xs = run-holds (stepOf t) (λ (n : ℕ). Alike m) (λ (n : ℕ) (k : Machine) (b : ℕ) (e : Alike m k). holds-alike m k e (stepOf t k b) (step-alike k b)) 0 (live m s) xs refl
 
-pub close-alike : (s : Singles) (w : List ℤ) (m : Machine) → Holds (Alike m) (closeOf s w m)
-unfolding closeOf freshIn
-close-alike s w (Utf8 m) = carried-alike Utf8 (Utf8 m) (λ x. refl) _
-close-alike s w (Iso2022Jp m) = carried-alike Iso2022Jp (Iso2022Jp m) (λ x. refl) _
-close-alike s w (EucKr m) = carried-alike EucKr (EucKr m) (λ x. refl) _
-close-alike s w (Big5 m) = carried-alike Big5 (Big5 m) (λ x. refl) _
-close-alike s w (Caseless m) = carried-alike Caseless (Caseless m) (λ x. refl) _
-close-alike s w (Logical m) = carried-alike Logical (Logical m) (λ x. refl) _
-close-alike s w (Visual m) = carried-alike Visual (Visual m) (λ x. refl) _
-close-alike s w (ArabicFrench m) = carried-alike ArabicFrench (ArabicFrench m) (λ x. refl) _
+  pub close-alike : (m : Machine) → Holds (Alike m) (closeOf t m)
+  unfolding closeOf freshIn
+  close-alike (Utf8 m) = carried-alike Utf8 (Utf8 m) (λ x. refl) _
+  close-alike (Iso2022Jp m) = carried-alike Iso2022Jp (Iso2022Jp m) (λ x. refl) _
+  close-alike (EucKr m) = carried-alike EucKr (EucKr m) (λ x. refl) _
+  close-alike (Big5 m) = carried-alike Big5 (Big5 m) (λ x. refl) _
+  close-alike (Caseless m) = carried-alike Caseless (Caseless m) (λ x. refl) _
+  close-alike (Logical m) = carried-alike Logical (Logical m) (λ x. refl) _
+  close-alike (Visual m) = carried-alike Visual (Visual m) (λ x. refl) _
+  close-alike (ArabicFrench m) = carried-alike ArabicFrench (ArabicFrench m) (λ x. refl) _

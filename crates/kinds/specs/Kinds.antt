@@ -1,5 +1,5 @@
 -- The eight machines as one: a byte, a stretch and the end of the stream do to each what its own definition says, over its own
--- of the lent tables. Assumes nothing.
+-- tables. Assumes nothing.
 use mathlib.Core.List.{List}
 use Prim.Native.Nat.{ℕ, _≤_}
 use lib.IntN.{ℤ, pos, natAbs}
@@ -31,7 +31,7 @@ use Rattle.visual.specs.declared.Ran.the-variants as visual-ran
 use Rattle.utf8.specs.declared.Ran.{Ran as Utf8Ran}
 use Rattle.utf8.specs.declared.Ran.the-variants as utf-8-ran
 use Rattle.utf8.specs.Utf8 as utf-8
-use Rattle.tables.specs.Tables.{Singles, Tables, lentTo}
+use Rattle.tables.specs.Own.{Own, lentTo}
 use Rattle.kinds.specs.declared.machine.Machine.{Machine}
 use Rattle.kinds.specs.declared.machine.Machine.the-variants.{Utf8, Iso2022Jp, EucKr, Big5, Caseless, Logical, Visual, ArabicFrench}
 use Rattle.kinds.specs.declared.machine.Ran.{Ran}
@@ -60,26 +60,26 @@ freshIn (Visual m) = Visual visual.freshOf
 freshIn (ArabicFrench m) = ArabicFrench arabicFrench.freshOf
 
 -- ---- one byte
-unfoldable pub stepOf : Tables → Machine → ℕ → Outcome Machine
-stepOf t (Utf8 m) b = carried Utf8 (utf-8.stepOf m b)
-stepOf t (Iso2022Jp m) b = carried Iso2022Jp (iso2022jp.stepOf (t .jis) m b)
-stepOf t (EucKr m) b = carried EucKr (euckr-scoring.stepOf (euckr-scoring.lent (t .euckr) (t .extras) (euckr-scoring.scaleOf (t .weights))) m b)
-stepOf t (Big5 m) b = carried Big5 (big5-scoring.stepOf (big5-scoring.lent (t .big5) (big5-scoring.scaleOf (t .weights))) m b)
-stepOf t (Caseless m) b = carried Caseless (caseless.stepOf (lentTo (t .singles .caseless) (t .weights)) m b)
-stepOf t (Logical m) b = carried Logical (logical.stepOf (lentTo (t .singles .logical) (t .weights)) m b)
-stepOf t (Visual m) b = carried Visual (visual.stepOf (lentTo (t .singles .visual) (t .weights)) m b)
-stepOf t (ArabicFrench m) b = carried ArabicFrench (arabicFrench.stepOf (lentTo (t .singles .arabicFrench) (t .weights)) m b)
+unfoldable pub stepOf : Own → Machine → ℕ → Outcome Machine
+stepOf o (Utf8 m) b = carried Utf8 (utf-8.stepOf m b)
+stepOf o (Iso2022Jp m) b = carried Iso2022Jp (iso2022jp.stepOf (o .index) m b)
+stepOf o (EucKr m) b = carried EucKr (euckr-scoring.stepOf (euckr-scoring.lent (o .index) (o .extras) (euckr-scoring.scaleOf (o .weights))) m b)
+stepOf o (Big5 m) b = carried Big5 (big5-scoring.stepOf (big5-scoring.lent (o .index) (big5-scoring.scaleOf (o .weights))) m b)
+stepOf o (Caseless m) b = carried Caseless (caseless.stepOf (lentTo o) m b)
+stepOf o (Logical m) b = carried Logical (logical.stepOf (lentTo o) m b)
+stepOf o (Visual m) b = carried Visual (visual.stepOf (lentTo o) m b)
+stepOf o (ArabicFrench m) b = carried ArabicFrench (arabicFrench.stepOf (lentTo o) m b)
 
 -- ---- the end of the stream
-unfoldable pub closeOf : Singles → List ℤ → Machine → Outcome Machine
-closeOf s w (Utf8 m) = carried Utf8 (utf-8.closeOf m)
-closeOf s w (Iso2022Jp m) = carried Iso2022Jp (iso2022jp.closeOf m)
-closeOf s w (EucKr m) = carried EucKr (euckr.closeOf m)
-closeOf s w (Big5 m) = carried Big5 (big5.closeOf m)
-closeOf s w (Caseless m) = carried Caseless (caseless.closeOf (lentTo (s .caseless) w) m)
-closeOf s w (Logical m) = carried Logical (logical.closeOf (lentTo (s .logical) w) m)
-closeOf s w (Visual m) = carried Visual (visual.closeOf (lentTo (s .visual) w) m)
-closeOf s w (ArabicFrench m) = carried ArabicFrench (arabicFrench.closeOf (lentTo (s .arabicFrench) w) m)
+unfoldable pub closeOf : Own → Machine → Outcome Machine
+closeOf o (Utf8 m) = carried Utf8 (utf-8.closeOf m)
+closeOf o (Iso2022Jp m) = carried Iso2022Jp (iso2022jp.closeOf m)
+closeOf o (EucKr m) = carried EucKr (euckr.closeOf m)
+closeOf o (Big5 m) = carried Big5 (big5.closeOf m)
+closeOf o (Caseless m) = carried Caseless (caseless.closeOf (lentTo o) m)
+closeOf o (Logical m) = carried Logical (logical.closeOf (lentTo o) m)
+closeOf o (Visual m) = carried Visual (visual.closeOf (lentTo o) m)
+closeOf o (ArabicFrench m) = carried ArabicFrench (arabicFrench.closeOf (lentTo o) m)
 
 -- ---- the code's answers
 unfoldable pub ranAs : Outcome Machine → Ran
@@ -127,25 +127,25 @@ ofArabicFrench arabicFrench-ran.Dropped = Dropped
 ofArabicFrench arabicFrench-ran.Unfit = Unfit
 
 -- a stretch, and the end of the stream: for any record, any lent lists and any stretch
-unfoldable pub ranOf : Tables → Machine → List ℕ → Ran
-ranOf t (Utf8 m) xs = ofUtf8 (utf-8.ranOf m xs)
-ranOf t (Iso2022Jp m) xs = ofIso2022Jp (iso2022jp.ranOf (t .jis) m xs)
-ranOf t (EucKr m) xs = ofEucKr (euckr.ranOf (t .euckr) (t .extras) (t .weights) m xs)
-ranOf t (Big5 m) xs = ofBig5 (big5.ranOf (t .big5) (t .weights) m xs)
-ranOf t (Caseless m) xs = ofCaseless (caseless.ranOf (lentTo (t .singles .caseless) (t .weights)) m xs)
-ranOf t (Logical m) xs = ofLogical (logical.ranOf (lentTo (t .singles .logical) (t .weights)) m xs)
-ranOf t (Visual m) xs = ofVisual (visual.ranOf (lentTo (t .singles .visual) (t .weights)) m xs)
-ranOf t (ArabicFrench m) xs = ofArabicFrench (arabicFrench.ranOf (lentTo (t .singles .arabicFrench) (t .weights)) m xs)
+unfoldable pub ranOf : Own → Machine → List ℕ → Ran
+ranOf o (Utf8 m) xs = ofUtf8 (utf-8.ranOf m xs)
+ranOf o (Iso2022Jp m) xs = ofIso2022Jp (iso2022jp.ranOf (o .index) m xs)
+ranOf o (EucKr m) xs = ofEucKr (euckr.ranOf (o .index) (o .extras) (o .weights) m xs)
+ranOf o (Big5 m) xs = ofBig5 (big5.ranOf (o .index) (o .weights) m xs)
+ranOf o (Caseless m) xs = ofCaseless (caseless.ranOf (lentTo o) m xs)
+ranOf o (Logical m) xs = ofLogical (logical.ranOf (lentTo o) m xs)
+ranOf o (Visual m) xs = ofVisual (visual.ranOf (lentTo o) m xs)
+ranOf o (ArabicFrench m) xs = ofArabicFrench (arabicFrench.ranOf (lentTo o) m xs)
 
-unfoldable pub closedOf : Singles → List ℤ → Machine → Ran
-closedOf s w (Utf8 m) = ofUtf8 (utf-8.closedOf m)
-closedOf s w (Iso2022Jp m) = ofIso2022Jp (iso2022jp.closedOf m)
-closedOf s w (EucKr m) = ofEucKr (euckr.closedOf m)
-closedOf s w (Big5 m) = ofBig5 (big5.closedOf m)
-closedOf s w (Caseless m) = ofCaseless (caseless.closedOf (lentTo (s .caseless) w) m)
-closedOf s w (Logical m) = ofLogical (logical.closedOf (lentTo (s .logical) w) m)
-closedOf s w (Visual m) = ofVisual (visual.closedOf (lentTo (s .visual) w) m)
-closedOf s w (ArabicFrench m) = ofArabicFrench (arabicFrench.closedOf (lentTo (s .arabicFrench) w) m)
+unfoldable pub closedOf : Own → Machine → Ran
+closedOf o (Utf8 m) = ofUtf8 (utf-8.closedOf m)
+closedOf o (Iso2022Jp m) = ofIso2022Jp (iso2022jp.closedOf m)
+closedOf o (EucKr m) = ofEucKr (euckr.closedOf m)
+closedOf o (Big5 m) = ofBig5 (big5.closedOf m)
+closedOf o (Caseless m) = ofCaseless (caseless.closedOf (lentTo o) m)
+closedOf o (Logical m) = ofLogical (logical.closedOf (lentTo o) m)
+closedOf o (Visual m) = ofVisual (visual.closedOf (lentTo o) m)
+closedOf o (ArabicFrench m) = ofArabicFrench (arabicFrench.closedOf (lentTo o) m)
 
 -- a live answer's change of the score is at most c in size
 abbrev pub Small : ℕ → Ran → Type 0

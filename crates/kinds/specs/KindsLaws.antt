@@ -31,8 +31,6 @@ use Rattle.iso2022jp.specs.declared.DecoderState.the-variants as D
 use Rattle.iso2022jp.specs.declared.Iso2022Jp.{Iso2022Jp as Iso2022JpRecord}
 use Rattle.iso2022jp.specs.declared.Ran.{Ran as Iso2022JpRan}
 use Rattle.iso2022jp.specs.declared.Ran.the-variants as iso2022jp-ran
-use Rattle.single.specs.Fit.{Fit}
-use Rattle.single.specs.Lent.{Lent}
 use Rattle.caseless.specs.Caseless as caseless
 use Rattle.caseless.specs.CaselessLaws as caseless-laws
 use Rattle.caseless.specs.declared.Caseless.{Caseless as CaselessRecord}
@@ -58,48 +56,50 @@ use Rattle.utf8.specs.Utf8Laws as utf-8-laws
 use Rattle.utf8.specs.declared.Ran.{Ran as Utf8Ran}
 use Rattle.utf8.specs.declared.Ran.the-variants as utf-8-ran
 use Rattle.utf8.specs.declared.Utf8.{Utf8 as Utf8Record}
-use Rattle.kinds.specs.Kinds.{stepOf, closeOf, ranAs, ofUtf8, ofIso2022Jp, ofEucKr, ofBig5, ofCaseless, ofLogical, ofVisual, ofArabicFrench, ranOf, closedOf, Small, WeighedIn, Weighed}
+use Rattle.kinds.specs.Kinds.{kindOf, stepOf, closeOf, ranAs, ofUtf8, ofIso2022Jp, ofEucKr, ofBig5, ofCaseless, ofLogical, ofVisual, ofArabicFrench, ranOf, closedOf, Small, WeighedIn, Weighed}
+use Rattle.kinds.specs.Sized.{SizedFor}
 use Rattle.kinds.specs.Sound.{SoundFor}
-use Rattle.tables.specs.Tables.{Single, Singles, Tables, lentTo, Sized}
-use Rattle.tables.specs.TablesLaws.{SizedOne, Lengths, lengths-of, single-sized}
+use Rattle.tables.specs.Own.{Own, ownOf, lentTo}
+use Rattle.tables.specs.OwnLaws.{own-sized}
+use Rattle.tables.specs.Tables.{Tables, Sized}
 use Rattle.kinds.specs.declared.machine.Machine.{Machine}
 use Rattle.kinds.specs.declared.machine.Machine.the-variants.{Utf8, Iso2022Jp, EucKr, Big5, Caseless, Logical, Visual, ArabicFrench}
 use Rattle.kinds.specs.declared.machine.Ran.{Ran}
 use Rattle.kinds.specs.declared.machine.Ran.the-variants.{Live, Dropped, Unfit}
 
 -- ---- a run of each kind is its own
-module _ (t : Tables) (s : ℤ) (xs : List ℕ) where
+module _ (t : Own) (s : ℤ) (xs : List ℕ) where
   pub run-utf-8 : (m : Utf8Record) → run (stepOf t) (live (Utf8 m) s) xs ≡ carried Utf8 (run utf-8.stepOf (live m s) xs)
   unfolding stepOf carried
   run-utf-8 m = run-carried Utf8 utf-8.stepOf (stepOf t) (λ (n : Utf8Record) (b : ℕ). refl) (live m s) xs
 
-  pub run-iso2022jp : (m : Iso2022JpRecord) → run (stepOf t) (live (Iso2022Jp m) s) xs ≡ carried Iso2022Jp (run (iso2022jp.stepOf (t .jis)) (live m s) xs)
+  pub run-iso2022jp : (m : Iso2022JpRecord) → run (stepOf t) (live (Iso2022Jp m) s) xs ≡ carried Iso2022Jp (run (iso2022jp.stepOf (t .index)) (live m s) xs)
   unfolding stepOf carried
-  run-iso2022jp m = run-carried Iso2022Jp (iso2022jp.stepOf (t .jis)) (stepOf t) (λ (n : Iso2022JpRecord) (b : ℕ). refl) (live m s) xs
+  run-iso2022jp m = run-carried Iso2022Jp (iso2022jp.stepOf (t .index)) (stepOf t) (λ (n : Iso2022JpRecord) (b : ℕ). refl) (live m s) xs
 
-  pub run-euckr : (m : EucKrRecord) → run (stepOf t) (live (EucKr m) s) xs ≡ carried EucKr (run (euckr-scoring.stepOf (euckr-scoring.lent (t .euckr) (t .extras) (euckr-scoring.scaleOf (t .weights)))) (live m s) xs)
+  pub run-euckr : (m : EucKrRecord) → run (stepOf t) (live (EucKr m) s) xs ≡ carried EucKr (run (euckr-scoring.stepOf (euckr-scoring.lent (t .index) (t .extras) (euckr-scoring.scaleOf (t .weights)))) (live m s) xs)
   unfolding stepOf carried
-  run-euckr m = run-carried EucKr (euckr-scoring.stepOf (euckr-scoring.lent (t .euckr) (t .extras) (euckr-scoring.scaleOf (t .weights)))) (stepOf t) (λ (n : EucKrRecord) (b : ℕ). refl) (live m s) xs
+  run-euckr m = run-carried EucKr (euckr-scoring.stepOf (euckr-scoring.lent (t .index) (t .extras) (euckr-scoring.scaleOf (t .weights)))) (stepOf t) (λ (n : EucKrRecord) (b : ℕ). refl) (live m s) xs
 
-  pub run-big5 : (m : Big5Record) → run (stepOf t) (live (Big5 m) s) xs ≡ carried Big5 (run (big5-scoring.stepOf (big5-scoring.lent (t .big5) (big5-scoring.scaleOf (t .weights)))) (live m s) xs)
+  pub run-big5 : (m : Big5Record) → run (stepOf t) (live (Big5 m) s) xs ≡ carried Big5 (run (big5-scoring.stepOf (big5-scoring.lent (t .index) (big5-scoring.scaleOf (t .weights)))) (live m s) xs)
   unfolding stepOf carried
-  run-big5 m = run-carried Big5 (big5-scoring.stepOf (big5-scoring.lent (t .big5) (big5-scoring.scaleOf (t .weights)))) (stepOf t) (λ (n : Big5Record) (b : ℕ). refl) (live m s) xs
+  run-big5 m = run-carried Big5 (big5-scoring.stepOf (big5-scoring.lent (t .index) (big5-scoring.scaleOf (t .weights)))) (stepOf t) (λ (n : Big5Record) (b : ℕ). refl) (live m s) xs
 
-  pub run-caseless : (m : CaselessRecord) → run (stepOf t) (live (Caseless m) s) xs ≡ carried Caseless (run (caseless.stepOf (lentTo (t .singles .caseless) (t .weights))) (live m s) xs)
+  pub run-caseless : (m : CaselessRecord) → run (stepOf t) (live (Caseless m) s) xs ≡ carried Caseless (run (caseless.stepOf (lentTo t)) (live m s) xs)
   unfolding stepOf carried
-  run-caseless m = run-carried Caseless (caseless.stepOf (lentTo (t .singles .caseless) (t .weights))) (stepOf t) (λ (n : CaselessRecord) (b : ℕ). refl) (live m s) xs
+  run-caseless m = run-carried Caseless (caseless.stepOf (lentTo t)) (stepOf t) (λ (n : CaselessRecord) (b : ℕ). refl) (live m s) xs
 
-  pub run-logical : (m : LogicalRecord) → run (stepOf t) (live (Logical m) s) xs ≡ carried Logical (run (logical.stepOf (lentTo (t .singles .logical) (t .weights))) (live m s) xs)
+  pub run-logical : (m : LogicalRecord) → run (stepOf t) (live (Logical m) s) xs ≡ carried Logical (run (logical.stepOf (lentTo t)) (live m s) xs)
   unfolding stepOf carried
-  run-logical m = run-carried Logical (logical.stepOf (lentTo (t .singles .logical) (t .weights))) (stepOf t) (λ (n : LogicalRecord) (b : ℕ). refl) (live m s) xs
+  run-logical m = run-carried Logical (logical.stepOf (lentTo t)) (stepOf t) (λ (n : LogicalRecord) (b : ℕ). refl) (live m s) xs
 
-  pub run-visual : (m : VisualRecord) → run (stepOf t) (live (Visual m) s) xs ≡ carried Visual (run (visual.stepOf (lentTo (t .singles .visual) (t .weights))) (live m s) xs)
+  pub run-visual : (m : VisualRecord) → run (stepOf t) (live (Visual m) s) xs ≡ carried Visual (run (visual.stepOf (lentTo t)) (live m s) xs)
   unfolding stepOf carried
-  run-visual m = run-carried Visual (visual.stepOf (lentTo (t .singles .visual) (t .weights))) (stepOf t) (λ (n : VisualRecord) (b : ℕ). refl) (live m s) xs
+  run-visual m = run-carried Visual (visual.stepOf (lentTo t)) (stepOf t) (λ (n : VisualRecord) (b : ℕ). refl) (live m s) xs
 
-  pub run-arabicFrench : (m : ArabicFrenchRecord) → run (stepOf t) (live (ArabicFrench m) s) xs ≡ carried ArabicFrench (run (arabicFrench.stepOf (lentTo (t .singles .arabicFrench) (t .weights))) (live m s) xs)
+  pub run-arabicFrench : (m : ArabicFrenchRecord) → run (stepOf t) (live (ArabicFrench m) s) xs ≡ carried ArabicFrench (run (arabicFrench.stepOf (lentTo t)) (live m s) xs)
   unfolding stepOf carried
-  run-arabicFrench m = run-carried ArabicFrench (arabicFrench.stepOf (lentTo (t .singles .arabicFrench) (t .weights))) (stepOf t) (λ (n : ArabicFrenchRecord) (b : ℕ). refl) (live m s) xs
+  run-arabicFrench m = run-carried ArabicFrench (arabicFrench.stepOf (lentTo t)) (stepOf t) (λ (n : ArabicFrenchRecord) (b : ℕ). refl) (live m s) xs
 
 -- ---- an answer of each kind is that of its outcome
 still-answer : {S : Type 0} (P : S → Type 0) (wrap : S → Machine) (answer : Outcome S → Ran) → answer (none dropout) ≡ Dropped → ((m : S) (s : ℤ) → answer (live m s) ≡ Live (wrap m) (pos 0)) → (o : Outcome S) → Ends P (pos 0) o → answer o ≡ ranAs (carried wrap o)
@@ -171,54 +171,47 @@ big5-closed : (m : Big5Record) → big5.Sound limit m → big5.closedOf m ≡ bi
 unfolding big5.closedOf
 big5-closed m o = rw (big5-laws.true-sound limit m o)
 
--- ---- a stretch
-module _ (t : Tables) (sized : Sized t) where
-  lens : Lengths t
-  lens = lengths-of t sized
+-- ---- exact lengths give each machine those that it asks
+pub sized-for : (t : Tables) → Sized t → (m : Machine) → SizedFor (ownOf t (kindOf m)) m
+unfolding kindOf
+sized-for t s (Utf8 m) = tt
+sized-for t s (Iso2022Jp m) = own-sized t s .iso2022jp
+sized-for t s (EucKr m) = own-sized t s .euckr
+sized-for t s (Big5 m) = own-sized t s .big5
+sized-for t s (Caseless m) = own-sized t s .caseless
+sized-for t s (Logical m) = own-sized t s .logical
+sized-for t s (Visual m) = own-sized t s .visual
+sized-for t s (ArabicFrench m) = own-sized t s .arabicFrench
 
-  fit-single : (s : Single) → SizedOne s → (S : Type 0) → S → (n : ℕ) → n ≤ limit → Fit (lentTo s (t .weights)) S n
-  fit-single s o S sound n h = record { sized = single-sized s (t .weights) o (lens .weights-length); sound = sound; short = h }
-
+module _ (t : Own) where
+  -- ---- a stretch: what the code answers is the outcome of the run
   module _ (xs : List ℕ) (short : length xs ≤ limit) where
-    fit-caseless : (m : CaselessRecord) → SoundFor limit limit (Caseless m) → Fit (lentTo (t .singles .caseless) (t .weights)) (caseless.Sound room m) (length xs)
-    fit-caseless m o = fit-single (t .singles .caseless) (lens .caseless) (caseless.Sound room m) (caseless-laws.sound-more limit room m (omega arith) (o .1)) (length xs) short
-
-    fit-logical : (m : LogicalRecord) → SoundFor limit limit (Logical m) → Fit (lentTo (t .singles .logical) (t .weights)) (logical.Sound room m) (length xs)
-    fit-logical m o = fit-single (t .singles .logical) (lens .logical) (logical.Sound room m) (logical-laws.sound-more limit room m (omega arith) (o .1 .1)) (length xs) short
-
-    fit-visual : (m : VisualRecord) → SoundFor limit limit (Visual m) → Fit (lentTo (t .singles .visual) (t .weights)) (visual.Sound room m) (length xs)
-    fit-visual m o = fit-single (t .singles .visual) (lens .visual) (visual.Sound room m) (visual-laws.sound-more limit room m (omega arith) (o .1)) (length xs) short
-
-    fit-arabicFrench : (m : ArabicFrenchRecord) → SoundFor limit limit (ArabicFrench m) → Fit (lentTo (t .singles .arabicFrench) (t .weights)) (arabicFrench.Sound room m) (length xs)
-    fit-arabicFrench m o = fit-single (t .singles .arabicFrench) (lens .arabicFrench) (arabicFrench.Sound room m) (arabicFrench-laws.sound-more limit room m (omega arith) (o .1)) (length xs) short
-
-    -- what the code answers is the outcome of the run
-    pub ran-fit : (m : Machine) → SoundFor limit limit m → ranOf t m xs ≡ ranAs (run (stepOf t) (live m (pos 0)) xs)
+    pub ran-fit : (m : Machine) → SizedFor t m → SoundFor limit limit m → ranOf t m xs ≡ ranAs (run (stepOf t) (live m (pos 0)) xs)
     unfolding ranOf
-    ran-fit (Utf8 m) o =
+    ran-fit (Utf8 m) z o =
         ap ofUtf8 (utf-8-laws.ran-ready m xs (record { sound = o; short = short })) ∙ (utf-8-answer (run utf-8.stepOf (live m (pos 0)) xs) (utf-8-laws.run-keeps m (pos 0) xs o) ∙ ap ranAs (sym (run-utf-8 t (pos 0) xs m)))
-    ran-fit (Iso2022Jp m) o =
-        ap ofIso2022Jp (iso2022jp-laws.ran-ready (t .jis) m xs (record { sound = o; sized = lens .jis-length; short = short })) ∙ (iso2022jp-answer (run (iso2022jp.stepOf (t .jis)) (live m (pos 0)) xs) (iso2022jp-laws.run-keeps (t .jis) m (pos 0) xs o) ∙ ap ranAs (sym (run-iso2022jp t (pos 0) xs m)))
-    ran-fit (EucKr m) o =
-        ap ofEucKr (euckr-laws.ran-ready (t .euckr) (t .extras) (t .weights) m xs (record { sound = euckr-laws.sound-more limit room m (omega arith) o; short = short; index-length = lens .euckr-length; extras-length = lens .extras-length; weights-length = lens .weights-length })) ∙ (euckr-answer _ ∙ ap ranAs (sym (run-euckr t (pos 0) xs m)))
-    ran-fit (Big5 m) o =
-        ap ofBig5 (big5-laws.ran-ready (t .big5) (t .weights) m xs (record { sound = o; short = short; index-length = lens .big5-length; weights-length = lens .weights-length })) ∙ (big5-answer _ ∙ ap ranAs (sym (run-big5 t (pos 0) xs m)))
-    ran-fit (Caseless m) o = ap ofCaseless (caseless-laws.ran-fit (lentTo (t .singles .caseless) (t .weights)) m xs (fit-caseless m o)) ∙ (caseless-answer _ ∙ ap ranAs (sym (run-caseless t (pos 0) xs m)))
-    ran-fit (Logical m) o = ap ofLogical (logical-laws.ran-fit (lentTo (t .singles .logical) (t .weights)) m xs (fit-logical m o)) ∙ (logical-answer _ ∙ ap ranAs (sym (run-logical t (pos 0) xs m)))
-    ran-fit (Visual m) o = ap ofVisual (visual-laws.ran-fit (lentTo (t .singles .visual) (t .weights)) m xs (fit-visual m o)) ∙ (visual-answer _ ∙ ap ranAs (sym (run-visual t (pos 0) xs m)))
-    ran-fit (ArabicFrench m) o = ap ofArabicFrench (arabicFrench-laws.ran-fit (lentTo (t .singles .arabicFrench) (t .weights)) m xs (fit-arabicFrench m o)) ∙ (arabicFrench-answer _ ∙ ap ranAs (sym (run-arabicFrench t (pos 0) xs m)))
+    ran-fit (Iso2022Jp m) z o =
+        ap ofIso2022Jp (iso2022jp-laws.ran-ready (t .index) m xs (record { sound = o; sized = z; short = short })) ∙ (iso2022jp-answer (run (iso2022jp.stepOf (t .index)) (live m (pos 0)) xs) (iso2022jp-laws.run-keeps (t .index) m (pos 0) xs o) ∙ ap ranAs (sym (run-iso2022jp t (pos 0) xs m)))
+    ran-fit (EucKr m) z o =
+        ap ofEucKr (euckr-laws.ran-ready (t .index) (t .extras) (t .weights) m xs (record { sound = euckr-laws.sound-more limit room m (omega arith) o; short = short; index-length = z .0; extras-length = z .1 .0; weights-length = z .1 .1 })) ∙ (euckr-answer _ ∙ ap ranAs (sym (run-euckr t (pos 0) xs m)))
+    ran-fit (Big5 m) z o =
+        ap ofBig5 (big5-laws.ran-ready (t .index) (t .weights) m xs (record { sound = o; short = short; index-length = z .0; weights-length = z .1 })) ∙ (big5-answer _ ∙ ap ranAs (sym (run-big5 t (pos 0) xs m)))
+    ran-fit (Caseless m) z o = ap ofCaseless (caseless-laws.ran-fit (lentTo t) m xs (record { sized = z; sound = caseless-laws.sound-more limit room m (omega arith) (o .1); short = short })) ∙ (caseless-answer _ ∙ ap ranAs (sym (run-caseless t (pos 0) xs m)))
+    ran-fit (Logical m) z o = ap ofLogical (logical-laws.ran-fit (lentTo t) m xs (record { sized = z; sound = logical-laws.sound-more limit room m (omega arith) (o .1 .1); short = short })) ∙ (logical-answer _ ∙ ap ranAs (sym (run-logical t (pos 0) xs m)))
+    ran-fit (Visual m) z o = ap ofVisual (visual-laws.ran-fit (lentTo t) m xs (record { sized = z; sound = visual-laws.sound-more limit room m (omega arith) (o .1); short = short })) ∙ (visual-answer _ ∙ ap ranAs (sym (run-visual t (pos 0) xs m)))
+    ran-fit (ArabicFrench m) z o = ap ofArabicFrench (arabicFrench-laws.ran-fit (lentTo t) m xs (record { sized = z; sound = arabicFrench-laws.sound-more limit room m (omega arith) (o .1); short = short })) ∙ (arabicFrench-answer _ ∙ ap ranAs (sym (run-arabicFrench t (pos 0) xs m)))
 
   -- ---- the end of the stream, after a stretch
-  pub closed-fit : (m : Machine) → SoundFor (2 * limit) (2 * limit) m → closedOf (t .singles) (t .weights) m ≡ ranAs (closeOf (t .singles) (t .weights) m)
+  pub closed-fit : (m : Machine) → SizedFor t m → SoundFor (2 * limit) (2 * limit) m → closedOf t m ≡ ranAs (closeOf t m)
   unfolding closedOf closeOf
-  closed-fit (Utf8 m) o = ap ofUtf8 (utf-8-laws.closed-ready m o) ∙ utf-8-answer (utf-8.closeOf m) (utf-8-still m o)
-  closed-fit (Iso2022Jp m) o = ap ofIso2022Jp (iso2022jp-laws.closed-ready m o) ∙ iso2022jp-answer (iso2022jp.closeOf m) (iso2022jp-still m o)
-  closed-fit (EucKr m) o = ap ofEucKr (euckr-closed m (euckr-laws.sound-more (2 * limit) room m (omega arith) o)) ∙ euckr-answer (euckr.closeOf m)
-  closed-fit (Big5 m) o = ap ofBig5 (big5-closed m (big5-laws.sound-any (2 * limit) limit m o)) ∙ big5-answer (big5.closeOf m)
-  closed-fit (Caseless m) o = ap ofCaseless (caseless-laws.closed-fit (lentTo (t .singles .caseless) (t .weights)) m (fit-single (t .singles .caseless) (lens .caseless) (caseless.Sound room m) (caseless-laws.sound-more (2 * limit) room m (omega arith) (o .1)) 0 (omega arith))) ∙ caseless-answer _
-  closed-fit (Logical m) o = ap ofLogical (logical-laws.closed-fit (lentTo (t .singles .logical) (t .weights)) m (fit-single (t .singles .logical) (lens .logical) (logical.Sound room m) (logical-laws.sound-more (2 * limit) room m (omega arith) (o .1 .1)) 0 (omega arith))) ∙ logical-answer _
-  closed-fit (Visual m) o = ap ofVisual (visual-laws.closed-fit (lentTo (t .singles .visual) (t .weights)) m (fit-single (t .singles .visual) (lens .visual) (visual.Sound room m) (visual-laws.sound-more (2 * limit) room m (omega arith) (o .1)) 0 (omega arith))) ∙ visual-answer _
-  closed-fit (ArabicFrench m) o = ap ofArabicFrench (arabicFrench-laws.closed-fit (lentTo (t .singles .arabicFrench) (t .weights)) m (fit-single (t .singles .arabicFrench) (lens .arabicFrench) (arabicFrench.Sound room m) (arabicFrench-laws.sound-more (2 * limit) room m (omega arith) (o .1)) 0 (omega arith))) ∙ arabicFrench-answer _
+  closed-fit (Utf8 m) z o = ap ofUtf8 (utf-8-laws.closed-ready m o) ∙ utf-8-answer (utf-8.closeOf m) (utf-8-still m o)
+  closed-fit (Iso2022Jp m) z o = ap ofIso2022Jp (iso2022jp-laws.closed-ready m o) ∙ iso2022jp-answer (iso2022jp.closeOf m) (iso2022jp-still m o)
+  closed-fit (EucKr m) z o = ap ofEucKr (euckr-closed m (euckr-laws.sound-more (2 * limit) room m (omega arith) o)) ∙ euckr-answer (euckr.closeOf m)
+  closed-fit (Big5 m) z o = ap ofBig5 (big5-closed m (big5-laws.sound-any (2 * limit) limit m o)) ∙ big5-answer (big5.closeOf m)
+  closed-fit (Caseless m) z o = ap ofCaseless (caseless-laws.closed-fit (lentTo t) m (record { sized = z; sound = caseless-laws.sound-more (2 * limit) room m (omega arith) (o .1); short = omega arith })) ∙ caseless-answer _
+  closed-fit (Logical m) z o = ap ofLogical (logical-laws.closed-fit (lentTo t) m (record { sized = z; sound = logical-laws.sound-more (2 * limit) room m (omega arith) (o .1 .1); short = omega arith })) ∙ logical-answer _
+  closed-fit (Visual m) z o = ap ofVisual (visual-laws.closed-fit (lentTo t) m (record { sized = z; sound = visual-laws.sound-more (2 * limit) room m (omega arith) (o .1); short = omega arith })) ∙ visual-answer _
+  closed-fit (ArabicFrench m) z o = ap ofArabicFrench (arabicFrench-laws.closed-fit (lentTo t) m (record { sized = z; sound = arabicFrench-laws.sound-more (2 * limit) room m (omega arith) (o .1); short = omega arith })) ∙ arabicFrench-answer _
 
 -- ---- sizes and weights, as each kind's own answer has them
 module _ (c : ℕ) where

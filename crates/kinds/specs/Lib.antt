@@ -1,5 +1,6 @@
 pub mod KindLaws
 pub mod Kinds
 pub mod KindsLaws
+pub mod Sized
 pub mod Sound
 pub mod SoundLaws

@@ -1,6 +1,6 @@
 -- What a machine can hold after n bytes. The closing space can lengthen a word and, in visual order, count punctuation: these
 -- are bounded by `reach`, which has the space besides, and all else by n. Assumes nothing.
-use mathlib.Core.Bool.{Bool, cond, _&&_}
+use mathlib.Core.Bool.{Bool, true, false, cond, _&&_}
 use Prim.Native.Nat.{ℕ, _+_, _≤_}
 use lib.Dec.{leb}
 use Rattle.big5.specs.Big5 as big5
@@ -12,13 +12,19 @@ use Rattle.logical.specs.Logical as logical
 use Rattle.visual.specs.Visual as visual
 use Rattle.logical.specs.declared.Logical.{Logical as LogicalRecord}
 use Rattle.utf8.specs.Utf8 as utf-8
-use Rattle.kinds.specs.Kinds.{kindOf}
 use Rattle.kinds.specs.declared.machine.Machine.{Machine}
 use Rattle.kinds.specs.declared.machine.Machine.the-variants.{Utf8, Iso2022Jp, EucKr, Big5, Caseless, Logical, Visual, ArabicFrench}
 
 -- the end of the stream is a space to it, one byte more
 unfoldable pub takesSpace : Machine → Bool
-takesSpace m = leb 4 (kindOf m)
+takesSpace (Utf8 m) = false
+takesSpace (Iso2022Jp m) = false
+takesSpace (EucKr m) = false
+takesSpace (Big5 m) = false
+takesSpace (Caseless m) = true
+takesSpace (Logical m) = true
+takesSpace (Visual m) = true
+takesSpace (ArabicFrench m) = true
 
 -- the bytes that it has seen at most, of a stream of n that is closed or not
 unfoldable pub reachOf : Machine → ℕ → Bool → ℕ

@@ -43,10 +43,10 @@ use Rattle.arabic_french.specs.ArabicFrenchLaws as arabicFrench-laws
 use Rattle.arabic_french.specs.declared.ArabicFrench.{ArabicFrench as ArabicFrenchRecord}
 use Rattle.utf8.specs.Utf8 as utf-8
 use Rattle.utf8.specs.Utf8Laws as utf-8-laws
-use Rattle.kinds.specs.Kinds.{kindOf, freshIn, stepOf, closeOf, WeighedIn}
+use Rattle.kinds.specs.Kinds.{freshIn, stepOf, closeOf, WeighedIn}
 use Rattle.kinds.specs.KindsLaws.{run-utf-8, run-iso2022jp, run-euckr, run-big5, run-caseless, run-logical, run-visual, run-arabicFrench, utf-8-still, iso2022jp-still}
 use Rattle.kinds.specs.Sound.{takesSpace, reachOf, SoundFor, soundLogicalB, soundB}
-use Rattle.tables.specs.Tables.{Singles, Tables, lentTo}
+use Rattle.tables.specs.Own.{Own, lentTo}
 use Rattle.kinds.specs.declared.machine.Machine.{Machine}
 use Rattle.kinds.specs.declared.machine.Machine.the-variants.{Utf8, Iso2022Jp, EucKr, Big5, Caseless, Logical, Visual, ArabicFrench}
 
@@ -109,7 +109,7 @@ holds-more : {S : Type 0} (P Q : S → Type 0) (o : Outcome S) → ((m : S) → 
 holds-more P Q (none d) f h = tt
 holds-more P Q (live m s) f h = f m h
 
-module _ (t : Tables) (n : ℕ) (xs : List ℕ) where
+module _ (t : Own) (n : ℕ) (xs : List ℕ) where
   abbrev after : ℕ
   after = n + length xs
 
@@ -120,24 +120,24 @@ module _ (t : Tables) (n : ℕ) (xs : List ℕ) where
   pub run-sound : (m : Machine) → WeighedIn m (t .weights) → SoundFor n n m → Holds (SoundFor after after) (run (stepOf t) (live m (pos 0)) xs)
   run-sound (Utf8 m) w o = lifted Utf8 m utf-8.stepOf (run-utf-8 t (pos 0) xs m) (ends-holds utf-8.Sound (pos 0) (run utf-8.stepOf (live m (pos 0)) xs) (utf-8-laws.run-keeps m (pos 0) xs o))
   run-sound (Iso2022Jp m) w o =
-      lifted Iso2022Jp m (iso2022jp.stepOf (t .jis)) (run-iso2022jp t (pos 0) xs m) (ends-holds iso2022jp.Sound (pos 0) (run (iso2022jp.stepOf (t .jis)) (live m (pos 0)) xs) (iso2022jp-laws.run-keeps (t .jis) m (pos 0) xs o))
+      lifted Iso2022Jp m (iso2022jp.stepOf (t .index)) (run-iso2022jp t (pos 0) xs m) (ends-holds iso2022jp.Sound (pos 0) (run (iso2022jp.stepOf (t .index)) (live m (pos 0)) xs) (iso2022jp-laws.run-keeps (t .index) m (pos 0) xs o))
   run-sound (EucKr m) w o =
-      let l = euckr-scoring.lent (t .euckr) (t .extras) (euckr-scoring.scaleOf (t .weights)) in
+      let l = euckr-scoring.lent (t .index) (t .extras) (euckr-scoring.scaleOf (t .weights)) in
       lifted EucKr m (euckr-scoring.stepOf l) (run-euckr t (pos 0) xs m) (run-holds (euckr-scoring.stepOf l) euckr.Sound (λ (k : ℕ) (x : EucKrRecord) (b : ℕ) (h : euckr.Sound k x). holds-all (euckr.Sound (k + 1)) (euckr-scoring.stepOf l x b) (λ (y : EucKrRecord) (s : ℤ) e. euckr-laws.turn-sound l w k x b y s h e)) n (live m (pos 0)) xs o)
   run-sound (Big5 m) w o =
-      let l = big5-scoring.lent (t .big5) (big5-scoring.scaleOf (t .weights)) in
+      let l = big5-scoring.lent (t .index) (big5-scoring.scaleOf (t .weights)) in
       lifted Big5 m (big5-scoring.stepOf l) (run-big5 t (pos 0) xs m) (run-holds (big5-scoring.stepOf l) big5.Sound (λ (k : ℕ) (x : Big5Record) (b : ℕ) (h : big5.Sound k x). holds-all (big5.Sound (k + 1)) (big5-scoring.stepOf l x b) (λ (y : Big5Record) (s : ℤ) e. big5-laws.turn-within l w k x b y s h e .0)) n (live m (pos 0)) xs o)
   run-sound (Caseless m) w o =
-      let l = lentTo (t .singles .caseless) (t .weights) in
+      let l = lentTo t in
       lifted Caseless m (caseless.stepOf l) (run-caseless t (pos 0) xs m) (holds-more (caseless.Sound after) (λ (k : CaselessRecord). SoundFor after after (Caseless k)) (run (caseless.stepOf l) (live m (pos 0)) xs) (λ (k : CaselessRecord) (h : caseless.Sound after k). (h .longest-most, h)) (run-holds (caseless.stepOf l) caseless.Sound (λ (k : ℕ) (x : CaselessRecord) (b : ℕ) (h : caseless.Sound k x). holds-all (caseless.Sound (k + 1)) (caseless.stepOf l x b) (λ (y : CaselessRecord) (s : ℤ) e. caseless-laws.sound-next l x b k y s h e)) n (live m (pos 0)) xs (o .1)))
   run-sound (Logical m) w o =
-      let l = lentTo (t .singles .logical) (t .weights) in
+      let l = lentTo t in
       lifted Logical m (logical.stepOf l) (run-logical t (pos 0) xs m) (holds-more (logical.Sound after) (λ (k : LogicalRecord). SoundFor after after (Logical k)) (run (logical.stepOf l) (live m (pos 0)) xs) (λ (k : LogicalRecord) (h : logical.Sound after k). (h .punctuation-most, (h .common .longest-most, h))) (run-holds (logical.stepOf l) logical.Sound (λ (k : ℕ) (x : LogicalRecord) (b : ℕ) (h : logical.Sound k x). holds-all (logical.Sound (k + 1)) (logical.stepOf l x b) (λ (y : LogicalRecord) (s : ℤ) e. logical-laws.sound-next l x b k y s h e)) n (live m (pos 0)) xs (o .1 .1)))
   run-sound (Visual m) w o =
-      let l = lentTo (t .singles .visual) (t .weights) in
+      let l = lentTo t in
       lifted Visual m (visual.stepOf l) (run-visual t (pos 0) xs m) (holds-more (visual.Sound after) (λ (k : VisualRecord). SoundFor after after (Visual k)) (run (visual.stepOf l) (live m (pos 0)) xs) (λ (k : VisualRecord) (h : visual.Sound after k). (h .common .longest-most, h)) (run-holds (visual.stepOf l) visual.Sound (λ (k : ℕ) (x : VisualRecord) (b : ℕ) (h : visual.Sound k x). holds-all (visual.Sound (k + 1)) (visual.stepOf l x b) (λ (y : VisualRecord) (s : ℤ) e. visual-laws.sound-next l x b k y s h e)) n (live m (pos 0)) xs (o .1)))
   run-sound (ArabicFrench m) w o =
-      let l = lentTo (t .singles .arabicFrench) (t .weights) in
+      let l = lentTo t in
       lifted ArabicFrench m (arabicFrench.stepOf l) (run-arabicFrench t (pos 0) xs m) (holds-more (arabicFrench.Sound after) (λ (k : ArabicFrenchRecord). SoundFor after after (ArabicFrench k)) (run (arabicFrench.stepOf l) (live m (pos 0)) xs) (λ (k : ArabicFrenchRecord) (h : arabicFrench.Sound after k). (h .longest-most, h)) (run-holds (arabicFrench.stepOf l) arabicFrench.Sound (λ (k : ℕ) (x : ArabicFrenchRecord) (b : ℕ) (h : arabicFrench.Sound k x). holds-all (arabicFrench.Sound (k + 1)) (arabicFrench.stepOf l x b) (λ (y : ArabicFrenchRecord) (s : ℤ) e. arabicFrench-laws.sound-next l x b k y s h e)) n (live m (pos 0)) xs (o .1)))
 
 -- ---- the end of the stream
@@ -186,22 +186,22 @@ end-arabicFrench t n m k g h e =
     let s = arabicFrench-laws.sound-next t m space n k g (h .1) e in
     rw (next-arabicFrench t m k space g e) (longest-kept n (m .«current_word_len») (m .«longest_word») (alphabetic t space) (h .1 .word-most) (h .0), rw (next-arabicFrench t m k space g e) at s)
 
-module _ (s : Singles) (w : List ℤ) (n : ℕ) where
-  pub close-sound : (m : Machine) → SoundFor n n m → Holds (SoundFor n (reachOf m n true)) (closeOf s w m)
-  unfolding closeOf reachOf takesSpace kindOf
+module _ (t : Own) (n : ℕ) where
+  pub close-sound : (m : Machine) → SoundFor n n m → Holds (SoundFor n (reachOf m n true)) (closeOf t m)
+  unfolding closeOf reachOf takesSpace
   close-sound (Utf8 m) o = holds-carried Utf8 (SoundFor n n) (utf-8.closeOf m) (ends-holds utf-8.Sound (pos 0) (utf-8.closeOf m) (utf-8-still m o))
   close-sound (Iso2022Jp m) o = holds-carried Iso2022Jp (SoundFor n n) (iso2022jp.closeOf m) (ends-holds iso2022jp.Sound (pos 0) (iso2022jp.closeOf m) (iso2022jp-still m o))
   close-sound (EucKr m) o = holds-carried EucKr (SoundFor n n) (euckr.closeOf m) (either (Holds (euckr.Sound n)) (eqb (m .lead) 0) (λ e. o) (λ e. tt))
   close-sound (Big5 m) o = holds-carried Big5 (SoundFor n n) (big5.closeOf m) (either (Holds (big5.Sound n)) (eqb (m .lead) 0) (λ e. o) (λ e. tt))
   close-sound (Caseless m) o =
-      let t = lentTo (s .caseless) w in
-      holds-carried Caseless (SoundFor n (n + 1)) (caseless.closeOf t m) (holds-all (λ (k : CaselessRecord). SoundFor n (n + 1) (Caseless k)) (caseless.closeOf t m) (λ (k : CaselessRecord) (g : ℤ) e. end-caseless t n m k g o e))
+      let l = lentTo t in
+      holds-carried Caseless (SoundFor n (n + 1)) (caseless.closeOf l m) (holds-all (λ (k : CaselessRecord). SoundFor n (n + 1) (Caseless k)) (caseless.closeOf l m) (λ (k : CaselessRecord) (g : ℤ) e. end-caseless l n m k g o e))
   close-sound (Logical m) o =
-      let t = lentTo (s .logical) w in
-      holds-carried Logical (SoundFor n (n + 1)) (logical.closeOf t m) (holds-all (λ (k : LogicalRecord). SoundFor n (n + 1) (Logical k)) (logical.closeOf t m) (λ (k : LogicalRecord) (g : ℤ) e. end-logical t n m k g o e))
+      let l = lentTo t in
+      holds-carried Logical (SoundFor n (n + 1)) (logical.closeOf l m) (holds-all (λ (k : LogicalRecord). SoundFor n (n + 1) (Logical k)) (logical.closeOf l m) (λ (k : LogicalRecord) (g : ℤ) e. end-logical l n m k g o e))
   close-sound (Visual m) o =
-      let t = lentTo (s .visual) w in
-      holds-carried Visual (SoundFor n (n + 1)) (visual.closeOf t m) (holds-all (λ (k : VisualRecord). SoundFor n (n + 1) (Visual k)) (visual.closeOf t m) (λ (k : VisualRecord) (g : ℤ) e. end-visual t n m k g o e))
+      let l = lentTo t in
+      holds-carried Visual (SoundFor n (n + 1)) (visual.closeOf l m) (holds-all (λ (k : VisualRecord). SoundFor n (n + 1) (Visual k)) (visual.closeOf l m) (λ (k : VisualRecord) (g : ℤ) e. end-visual l n m k g o e))
   close-sound (ArabicFrench m) o =
-      let t = lentTo (s .arabicFrench) w in
-      holds-carried ArabicFrench (SoundFor n (n + 1)) (arabicFrench.closeOf t m) (holds-all (λ (k : ArabicFrenchRecord). SoundFor n (n + 1) (ArabicFrench k)) (arabicFrench.closeOf t m) (λ (k : ArabicFrenchRecord) (g : ℤ) e. end-arabicFrench t n m k g o e))
+      let l = lentTo t in
+      holds-carried ArabicFrench (SoundFor n (n + 1)) (arabicFrench.closeOf l m) (holds-all (λ (k : ArabicFrenchRecord). SoundFor n (n + 1) (ArabicFrench k)) (arabicFrench.closeOf l m) (λ (k : ArabicFrenchRecord) (g : ℤ) e. end-arabicFrench l n m k g o e))

@@ -3,7 +3,7 @@ ghost use mathlib.Core.Path.{_≡_};
 ghost use Prim.Native.Nat.{_*_};
 ghost use lib.ListN.{length};
 ghost use Rattle.weights.specs.Weights.{perByte};
-ghost use Rattle.tables.specs.Tables.{single, singles, tables};
+ghost use Rattle.tables.specs.Own.{own};
 ghost use Rattle.kinds.specs.Kinds.{kindOf, freshIn, ofUtf8, ofIso2022Jp, ofEucKr, ofBig5, ofCaseless, ofLogical, ofVisual, ofArabicFrench, ranOf, closedOf, Small, Weighed};
 use arabic_french::ArabicFrench;
 use big5;
@@ -150,45 +150,34 @@ impl Machine {
         }
     }
 
-    // A stretch of bytes: each kind is lent its own tables.
+    // A stretch of bytes, over the tables of its place; a machine reads those that it has.
     pub fn run(
         self,
         part: &[u8],
-        classes4: &[u8],
-        marks4: &[u8],
-        pairs4: &[i16],
-        classes5: &[u8],
-        marks5: &[u8],
-        pairs5: &[i16],
-        classes6: &[u8],
-        marks6: &[u8],
-        pairs6: &[i16],
-        classes7: &[u8],
-        marks7: &[u8],
-        pairs7: &[i16],
-        big5: &[u32],
-        euckr: &[u32],
-        jis: &[u32],
+        classes: &[u8],
+        marks: &[u8],
+        pairs: &[i16],
+        index: &[u32],
         extras: &[i16],
         weights: &[i32],
     ) -> Ran
-        ensures { λ r. ⌜ r ≡ ranOf (tables (singles (single (now (classes4 .entry)) (now (marks4 .entry)) (now (pairs4 .entry))) (single (now (classes5 .entry)) (now (marks5 .entry)) (now (pairs5 .entry))) (single (now (classes6 .entry)) (now (marks6 .entry)) (now (pairs6 .entry))) (single (now (classes7 .entry)) (now (marks7 .entry)) (now (pairs7 .entry)))) (now (big5 .entry)) (now (euckr .entry)) (now (jis .entry)) (now (extras .entry)) (now (weights .entry))) self (now (part .entry)) ⌝ }
+        ensures { λ r. ⌜ r ≡ ranOf (own (now (classes .entry)) (now (marks .entry)) (now (pairs .entry)) (now (index .entry)) (now (extras .entry)) (now (weights .entry))) self (now (part .entry)) ⌝ }
         ensures { λ r. ⌜ Small (perByte * length (now (part .entry))) r ⌝ }
         ensures { λ r. ⌜ Weighed self (now (weights .entry)) r ⌝ }
     {
         match self {
             Machine::Utf8(m) => of_utf8(m.run(part)),
-            Machine::Iso2022Jp(m) => of_iso2022jp(m.run(part, jis)),
-            Machine::EucKr(m) => of_euckr(m.run(part, euckr, extras, weights)),
-            Machine::Big5(m) => of_big5(m.run(part, big5, weights)),
-            Machine::Caseless(m) => of_caseless(m.run(part, classes4, marks4, pairs4, weights)),
-            Machine::Logical(m) => of_logical(m.run(part, classes5, marks5, pairs5, weights)),
-            Machine::Visual(m) => of_visual(m.run(part, classes6, marks6, pairs6, weights)),
+            Machine::Iso2022Jp(m) => of_iso2022jp(m.run(part, index)),
+            Machine::EucKr(m) => of_euckr(m.run(part, index, extras, weights)),
+            Machine::Big5(m) => of_big5(m.run(part, index, weights)),
+            Machine::Caseless(m) => of_caseless(m.run(part, classes, marks, pairs, weights)),
+            Machine::Logical(m) => of_logical(m.run(part, classes, marks, pairs, weights)),
+            Machine::Visual(m) => of_visual(m.run(part, classes, marks, pairs, weights)),
             Machine::ArabicFrench(m) => of_arabic_french(m.run(
                 part,
-                classes7,
-                marks7,
-                pairs7,
+                classes,
+                marks,
+                pairs,
                 weights,
             )),
         }
@@ -197,21 +186,14 @@ impl Machine {
     // The end of the stream.
     pub fn close(
         self,
-        classes4: &[u8],
-        marks4: &[u8],
-        pairs4: &[i16],
-        classes5: &[u8],
-        marks5: &[u8],
-        pairs5: &[i16],
-        classes6: &[u8],
-        marks6: &[u8],
-        pairs6: &[i16],
-        classes7: &[u8],
-        marks7: &[u8],
-        pairs7: &[i16],
+        classes: &[u8],
+        marks: &[u8],
+        pairs: &[i16],
+        index: &[u32],
+        extras: &[i16],
         weights: &[i32],
     ) -> Ran
-        ensures { λ r. ⌜ r ≡ closedOf (singles (single (now (classes4 .entry)) (now (marks4 .entry)) (now (pairs4 .entry))) (single (now (classes5 .entry)) (now (marks5 .entry)) (now (pairs5 .entry))) (single (now (classes6 .entry)) (now (marks6 .entry)) (now (pairs6 .entry))) (single (now (classes7 .entry)) (now (marks7 .entry)) (now (pairs7 .entry)))) (now (weights .entry)) self ⌝ }
+        ensures { λ r. ⌜ r ≡ closedOf (own (now (classes .entry)) (now (marks .entry)) (now (pairs .entry)) (now (index .entry)) (now (extras .entry)) (now (weights .entry))) self ⌝ }
         ensures { λ r. ⌜ Small perByte r ⌝ }
     {
         match self {
@@ -219,15 +201,10 @@ impl Machine {
             Machine::Iso2022Jp(m) => of_iso2022jp(m.close()),
             Machine::EucKr(m) => of_euckr(m.close()),
             Machine::Big5(m) => of_big5(m.close()),
-            Machine::Caseless(m) => of_caseless(m.close(classes4, marks4, pairs4, weights)),
-            Machine::Logical(m) => of_logical(m.close(classes5, marks5, pairs5, weights)),
-            Machine::Visual(m) => of_visual(m.close(classes6, marks6, pairs6, weights)),
-            Machine::ArabicFrench(m) => of_arabic_french(m.close(
-                classes7,
-                marks7,
-                pairs7,
-                weights,
-            )),
+            Machine::Caseless(m) => of_caseless(m.close(classes, marks, pairs, weights)),
+            Machine::Logical(m) => of_logical(m.close(classes, marks, pairs, weights)),
+            Machine::Visual(m) => of_visual(m.close(classes, marks, pairs, weights)),
+            Machine::ArabicFrench(m) => of_arabic_french(m.close(classes, marks, pairs, weights)),
         }
     }
 }

@@ -1,2 +1,4 @@
+pub mod Own
+pub mod OwnLaws
 pub mod Tables
 pub mod TablesLaws

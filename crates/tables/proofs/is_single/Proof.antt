@@ -1,18 +1,21 @@
 -- `is_single` meets its contract. Assumes nothing.
-use Rattle.tables.specs.Tables.{singleB}
-use borrow.Author.Needs.{needs}
+use mathlib.Core.Bool.{and-true}
+use borrow.Author.Tests.{eq-eqb, ne-eqb}
+use Rattle.tables.specs.Tables.{exactB}
 use Rattle.tables.proofs.is_single.Statement.{statement}
 use Rattle.tables.proofs.is_single.Tie as tie
 
-both-requires : tie.Need-both-requires
-both-requires c κs = search needs
-
-both-requires-2 : tie.Need-both-requires-2
-both-requires-2 c κs = search needs
-
 returns : tie.Need-returns
-unfolding singleB
-returns c = rw (c .both2 .ensures, c .before .both .ensures)
+unfolding exactB
+returns c = rw (ne-eqb _ _ (c .if1 .taken))
+
+returns-2 : tie.Need-returns-2
+unfolding exactB
+returns-2 c = rw (eq-eqb _ _ (c .before .if1 .left), ne-eqb _ _ (c .if2 .taken))
+
+returns-3 : tie.Need-returns-3
+unfolding exactB
+returns-3 c = rw (eq-eqb _ _ (c .before .if1 .left), eq-eqb _ _ (c .if2 .left)) (simp and-true)
 
 pub is-single-spec : {M : Type 1} → statement M
-is-single-spec = tie.close (tie.spec both-requires both-requires-2 returns)
+is-single-spec = tie.close (tie.spec returns returns-2 returns-3)

@@ -1,0 +1,45 @@
+-- One place's own tables, and which of all tables they are. Assumes nothing.
+use mathlib.Core.List.{List, [], _∷_}
+use Prim.Native.Nat.{ℕ}
+use lib.IntN.{ℤ}
+use lib.ListN.{getD}
+use Rattle.single.specs.Lent.{Lent, lent}
+use Rattle.tables.specs.Tables.{Single, Tables}
+
+-- a table that the place does not have is empty
+pub record Own : Type 0 where
+  pub classes : List ℕ
+  pub marks : List ℕ
+  pub pairs : List ℤ
+  pub index : List ℕ
+  pub extras : List ℤ
+  pub weights : List ℤ
+
+abbrev pub own : List ℕ → List ℕ → List ℤ → List ℕ → List ℤ → List ℤ → Own
+own c m p i x w = record { classes = c; marks = m; pairs = p; index = i; extras = x; weights = w }
+
+abbrev pub nothing : Own
+nothing = own [] [] [] [] [] []
+
+abbrev pub ofSingle : Single → List ℤ → Own
+ofSingle s w = own (s .classes) (s .marks) (s .pairs) [] [] w
+
+-- ---- each place's, in the order of their numbers
+abbrev pub owns : Tables → List Own
+owns t =
+    let utf8 = nothing in
+    let iso2022jp = own [] [] [] (t .jis) [] [] in
+    let euckr = own [] [] [] (t .euckr) (t .extras) (t .weights) in
+    let big5 = own [] [] [] (t .big5) [] (t .weights) in
+    let caseless = ofSingle (t .caseless) (t .weights) in
+    let logical = ofSingle (t .logical) (t .weights) in
+    let visual = ofSingle (t .visual) (t .weights) in
+    let arabicFrench = ofSingle (t .arabicFrench) (t .weights) in
+    utf8 ∷ iso2022jp ∷ euckr ∷ big5 ∷ caseless ∷ logical ∷ visual ∷ arabicFrench ∷ []
+
+abbrev pub ownOf : Tables → ℕ → Own
+ownOf t k = getD (owns t) k nothing
+
+-- as a single-byte machine takes them
+abbrev pub lentTo : Own → Lent
+lentTo o = lent (o .classes) (o .marks) (o .pairs) (o .weights)
