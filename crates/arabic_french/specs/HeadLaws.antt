@@ -13,7 +13,7 @@ use Rattle.arabic_french.specs.declared.LatinCaseState.{LatinCaseState}
 use Rattle.arabic_french.specs.declared.LatinCaseState.the-variants.{Space, Upper, Lower, AllCaps}
 
 -- of quiet bytes the record holds the last one's class, and the case of the letters so far
-abbrev holding : ℕ × LatinCaseState → ArabicFrench
+abbrev pub holding : ℕ × LatinCaseState → ArabicFrench
 holding k = record { prev = k .0; «case_state» = k .1; «prev_ascii» = true; «current_word_len» = 0; «longest_word» = 0 }
 
 two-capitals : (r s : LatinCaseState) → capitalAfter (capitalAfter r) ≡ capitalAfter (capitalAfter s)
@@ -37,7 +37,7 @@ module _ (t : Lent) where
   case-same : (r s : LatinCaseState) (a b : ℕ) → caseOf (caseOf r (classOf t a)) (classOf t b) ≡ caseOf (caseOf s (classOf t a)) (classOf t b)
   case-same r s a b = case-forgets (eqb (classOf t a % 128) latinLetter) (isCapital (classOf t a)) (eqb (classOf t b % 128) latinLetter) (isCapital (classOf t b)) r s
 
-  arabicFrench-quiet : Quiet (quietAt t) (stepOf t) holding (λ k b. (caselessOf t b, caseOf (k .1) (classOf t b)))
+  pub arabicFrench-quiet : Quiet (quietAt t) (stepOf t) holding (λ k b. (caselessOf t b, caseOf (k .1) (classOf t b)))
   unfolding stepOf
   arabicFrench-quiet =
       record {

@@ -22,11 +22,11 @@ use Rattle.big5.specs.declared.LatinCj.{LatinCj}
 use Rattle.big5.specs.declared.LatinCj.the-variants.{AsciiLetter, Other}
 use Rattle.big5.specs.declared.Scale.{Scale}
 
-abbrev kindOf : Bool → LatinCj
+abbrev pub kindOf : Bool → LatinCj
 kindOf isLetter = cond isLetter AsciiLetter Other
 
 -- of ASCII bytes the record holds the last one
-abbrev holding : ℕ → Big5
+abbrev pub holding : ℕ → Big5
 holding b = record { lead = 0; prev = kindOf (letter b); «prev_byte» = b; held = Nothing }
 
 no-hanzi : (u : ℕ) → u < 0x80 → isHanzi u ≡ false
@@ -59,7 +59,7 @@ module _ (t : Lent) where
   step-ascii k b e =
       sym (step-on t (holding k) b (decoded 0 (Point b)) (decode-ascii b e) (Point b) refl) ∙ ap (after 0 b) (point-ascii (t .scale) k b (ltb-true b 0x80 e))
 
-  big5-quiet : Quiet ascii (stepOf t) holding (λ k b. b)
+  pub big5-quiet : Quiet ascii (stepOf t) holding (λ k b. b)
   big5-quiet = record { steps = step-ascii; forgotten = λ k l a b. refl }
 
   pub big5-forgets : Forgets ascii (stepOf t) freshOf

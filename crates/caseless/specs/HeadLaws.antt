@@ -10,11 +10,11 @@ use Rattle.caseless.specs.Caseless.{freshOf, stepOf}
 use Rattle.caseless.specs.declared.Caseless.{Caseless}
 
 -- of quiet bytes the record holds the last one's class
-abbrev holding : ℕ → Caseless
+abbrev pub holding : ℕ → Caseless
 holding class = record { prev = class; «prev_ascii» = true; «current_word_len» = 0; «longest_word» = 0 }
 
 module _ (t : Lent) where
-  caseless-quiet : Quiet (quietAt t) (stepOf t) holding (λ k b. caselessOf t b)
+  pub caseless-quiet : Quiet (quietAt t) (stepOf t) holding (λ k b. caselessOf t b)
   unfolding stepOf
   caseless-quiet = record { steps = λ k b q. rw (is-ascii t b q, not-255 t b q, no-letter t b q); forgotten = λ k l a b. refl }
 

@@ -22,11 +22,11 @@ use Rattle.euckr.specs.declared.LatinKorean.{LatinKorean}
 use Rattle.euckr.specs.declared.LatinKorean.the-variants.{AsciiLetter, Other}
 use Rattle.euckr.specs.declared.Scale.{Scale}
 
-abbrev kindOf : Bool → LatinKorean
+abbrev pub kindOf : Bool → LatinKorean
 kindOf isLetter = cond isLetter AsciiLetter Other
 
 -- of ASCII bytes the record holds the last one
-abbrev holding : ℕ → EucKr
+abbrev pub holding : ℕ → EucKr
 holding b = record { lead = 0; «prev_byte» = b; «prev_was_euc_range» = isEuc b; prev = kindOf (letter b); «current_word_len» = 0; held = Nothing }
 
 no-hangul : (u : ℕ) → u < 0x80 → isHangul u ≡ false
@@ -54,7 +54,7 @@ module _ (t : Lent) where
   step-ascii k b e =
       sym (step-on t (holding k) b (decoded 0 (Point b)) (decode-ascii b e) (Point b) refl) ∙ ap (after 0 b) (unit-ascii (t .scale) (t .extras) k b (letter b) (ltb-true b 0x80 e) refl)
 
-  euckr-quiet : Quiet ascii (stepOf t) holding (λ k b. b)
+  pub euckr-quiet : Quiet ascii (stepOf t) holding (λ k b. b)
   euckr-quiet = record { steps = step-ascii; forgotten = λ k l a b. refl }
 
   pub euckr-forgets : Forgets ascii (stepOf t) freshOf

@@ -7,7 +7,7 @@ use Rattle.iso2022jp.specs.Iso2022Jp.{Passes, fresh, isText, stepOf}
 use Rattle.iso2022jp.specs.Iso2022JpLaws.{text-passes, fresh-sound}
 
 module _ (index : List ℕ) where
-  iso2022jp-quiet : Quiet isText (stepOf index) (λ (k : Unit {0}). fresh) (λ k b. k)
+  pub iso2022jp-quiet : Quiet isText (stepOf index) (λ (k : Unit {0}). fresh) (λ k b. k)
   unfolding Passes
   iso2022jp-quiet = record { steps = λ k b e. text-passes fresh b fresh-sound refl refl e index; forgotten = λ k l a b. refl }
 

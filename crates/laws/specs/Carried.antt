@@ -33,13 +33,14 @@ module _ {D S T : Type 0} (wrap : S → T) where
     run-carried o [] = refl
     run-carried o (x ∷ xs) = ap (λ (p : Out D T). run outer p xs) (feed-carried o x) ∙ run-carried (feed inner o x) xs
 
-    pub forgets-carried : {q : ℕ → Bool} {fresh : S} → Forgets q inner fresh → Forgets q outer (wrap fresh)
-    unfolding carried
-    forgets-carried {q} {fresh} f =
-        record {
-          last-two = λ s bs e. run-carried (live fresh s) bs ∙ (ap carried (f .last-two s bs e) ∙ sym (run-carried (live fresh s) (last 2 bs)));
-          lives = λ bs e. let l = f .lives bs e in (wrap (l .0), λ s. run-carried (live fresh s) bs ∙ ap carried (l .1 s));
-        }
+pub forgets-carried : {D S T : Type 0} {q : ℕ → Bool} {inner : S → ℕ → Out D S} {outer : T → ℕ → Out D T} {fresh : S} (wrap : S → T) → ((m : S) (b : ℕ) → outer (wrap m) b ≡ carried wrap (inner m b)) → Forgets q inner fresh → Forgets q outer (wrap fresh)
+unfolding carried
+forgets-carried {inner} {outer} {fresh} wrap same f =
+    let runs = run-carried wrap inner outer same in
+    record {
+      last-two = λ s bs e. runs (live fresh s) bs ∙ (ap (carried wrap) (f .last-two s bs e) ∙ sym (runs (live fresh s) (last 2 bs)));
+      lives = λ bs e. let l = f .lives bs e in (wrap (l .0), λ s. runs (live fresh s) bs ∙ ap (carried wrap) (l .1 s));
+    }
 
 -- ---- P of the record, where the outcome is live
 abbrev pub Holds : {D S : Type 0} → (S → Type 0) → Out D S → Type 0

@@ -29,30 +29,21 @@ pub record Quiet {D S K : Type 0} (q : ℕ → Bool) (step : S → ℕ → Out D
   pub steps : (k : K) (b : ℕ) → q b ≡ true → step (holding k) b ≡ live (holding (seen k b)) (pos 0)
   pub forgotten : (k l : K) (a b : ℕ) → seen (seen k a) b ≡ seen (seen l a) b
 
--- ---- bytes that all pass
-module _ (q : ℕ → Bool) where
-  all-rest : (b : ℕ) (bs : List ℕ) → all q (b ∷ bs) ≡ true → all q bs ≡ true
+all-drop : (q : ℕ → Bool) (n : ℕ) (bs : List ℕ) → all q bs ≡ true → all q (drop n bs) ≡ true
+unfolding all
+all-drop q zero bs e = e
+all-drop q (suc n) [] e = e
+all-drop q (suc n) (b ∷ bs) e = all-drop q n bs (both (q b) (all q bs) e .1)
+
+-- ---- a test that is passed less often
+module _ {p q : ℕ → Bool} (implies : (b : ℕ) → p b ≡ true → q b ≡ true) where
+  all-more : (bs : List ℕ) → all p bs ≡ true → all q bs ≡ true
   unfolding all
-  all-rest b bs e = both (q b) (all q bs) e .1
+  all-more [] e = refl
+  all-more (b ∷ bs) e = let h = both (p b) (all p bs) e in rw (implies b (h .0), all-more bs (h .1))
 
-  all-drop : (n : ℕ) (bs : List ℕ) → all q bs ≡ true → all q (drop n bs) ≡ true
-  all-drop zero bs e = e
-  all-drop (suc n) [] e = e
-  all-drop (suc n) (b ∷ bs) e = all-drop n bs (all-rest b bs e)
-
-  all-last : (k : ℕ) (bs : List ℕ) → all q bs ≡ true → all q (last k bs) ≡ true
-  unfolding last
-  all-last k bs e = all-drop (length bs - k) bs e
-
-  -- ---- a test that is passed less often
-  module _ (p : ℕ → Bool) (implies : (b : ℕ) → p b ≡ true → q b ≡ true) where
-    all-more : (bs : List ℕ) → all p bs ≡ true → all q bs ≡ true
-    unfolding all
-    all-more [] e = refl
-    all-more (b ∷ bs) e = let h = both (p b) (all p bs) e in rw (implies b (h .0), all-more bs (h .1))
-
-    pub forgets-less : {D S : Type 0} {step : S → ℕ → Out D S} {fresh : S} → Forgets q step fresh → Forgets p step fresh
-    forgets-less f = record { last-two = λ s bs e. f .last-two s bs (all-more bs e); lives = λ bs e. f .lives bs (all-more bs e) }
+  pub forgets-less : {D S : Type 0} {step : S → ℕ → Out D S} {fresh : S} → Forgets q step fresh → Forgets p step fresh
+  forgets-less f = record { last-two = λ s bs e. f .last-two s bs (all-more bs e); lives = λ bs e. f .lives bs (all-more bs e) }
 
 -- none passes one test, and none another
 pub all-neither : (p r : ℕ → Bool) (bs : List ℕ) → any p bs ≡ false → any r bs ≡ false → all (λ b. not (p b) && not (r b)) bs ≡ true
@@ -69,12 +60,12 @@ two-left bs h = rw length-drop (omega arith)
 
 -- ---- what is quiet forgets
 module _ {D S K : Type 0} {q : ℕ → Bool} {step : S → ℕ → Out D S} {holding : K → S} {seen : K → ℕ → K} (quiet : Quiet q step holding seen) where
-  -- what was seen after the bytes
-  after : K → List ℕ → K
+  -- what was seen after the bytes; the record is the one of that
+  unfoldable pub after : K → List ℕ → K
   after k [] = k
   after k (b ∷ bs) = after (seen k b) bs
 
-  quiet-run : (k : K) (s : ℤ) (bs : List ℕ) → all q bs ≡ true → run step (live (holding k) s) bs ≡ live (holding (after k bs)) s
+  pub quiet-run : (k : K) (s : ℤ) (bs : List ℕ) → all q bs ≡ true → run step (live (holding k) s) bs ≡ live (holding (after k bs)) s
   unfolding all run feed plus after
   quiet-run k s [] e = refl
   quiet-run k s (b ∷ bs) e = let h = both (q b) (all q bs) e in rw (quiet .steps k b (h .0), +ℤ-idr) (quiet-run (seen k b) s bs (h .1))
@@ -95,8 +86,9 @@ module _ {D S K : Type 0} {q : ℕ → Bool} {step : S → ℕ → Out D S} {hol
       after-last (seen k a) (b ∷ c ∷ bs) ∙ (after-same (seen k a) k (last 2 r) (two-left r (omega arith)) ∙ ap (after k) (sym (last-append 2 (a ∷ []) r (omega arith))))
 
   pub forgets : (k : K) → Forgets q step (holding k)
+  unfolding last
   forgets k =
       record {
-        last-two = λ s bs e. quiet-run k s bs e ∙ (ap (λ (l : K). live (holding l) s) (after-last k bs) ∙ sym (quiet-run k s (last 2 bs) (all-last q 2 bs e)));
+        last-two = λ s bs e. quiet-run k s bs e ∙ (ap (λ (l : K). live (holding l) s) (after-last k bs) ∙ sym (quiet-run k s (last 2 bs) (all-drop q (length bs - 2) bs e)));
         lives = λ bs e. (holding (after k bs), λ s. quiet-run k s bs e);
       }

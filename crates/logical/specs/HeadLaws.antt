@@ -10,11 +10,11 @@ use Rattle.logical.specs.Logical.{freshOf, stepOf}
 use Rattle.logical.specs.declared.Logical.{Logical}
 
 -- of quiet bytes the record holds the last one's class
-abbrev holding : ℕ → Logical
+abbrev pub holding : ℕ → Logical
 holding class = record { prev = class; «prev_ascii» = true; «plausible_punctuation» = 0; «current_word_len» = 0; «longest_word» = 0 }
 
 module _ (t : Lent) where
-  logical-quiet : Quiet (quietAt t) (stepOf t) holding (λ k b. caselessOf t b)
+  pub logical-quiet : Quiet (quietAt t) (stepOf t) holding (λ k b. caselessOf t b)
   unfolding stepOf
   logical-quiet = record { steps = λ k b q. rw (is-ascii t b q, not-255 t b q, no-letter t b q); forgotten = λ k l a b. refl }
 

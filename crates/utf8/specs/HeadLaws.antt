@@ -7,7 +7,7 @@ use Rattle.octets.specs.Octets.{ascii}
 use Rattle.utf8.specs.Utf8.{fresh, stepOf}
 use Rattle.utf8.specs.Utf8Laws.{lead-ascii}
 
-utf8-quiet : Quiet ascii stepOf (λ (k : Unit {0}). fresh) (λ k b. k)
+pub utf8-quiet : Quiet ascii stepOf (λ (k : Unit {0}). fresh) (λ k b. k)
 unfolding stepOf
 utf8-quiet = record { steps = λ k b e. sym (lead-ascii b (ltb-true b 0x80 e)); forgotten = λ k l a b. refl }
 

@@ -11,11 +11,11 @@ use Rattle.visual.specs.Visual.{freshOf, stepOf}
 use Rattle.visual.specs.declared.Visual.{Visual}
 
 -- of quiet bytes the record holds the last one's class, and whether it is punctuation of class 0
-abbrev holding : ℕ × Bool → Visual
+abbrev pub holding : ℕ × Bool → Visual
 holding k = record { prev = k .0; «prev_ascii» = true; «prev_punctuation» = k .1; «plausible_punctuation» = 0; «current_word_len» = 0; «longest_word» = 0 }
 
 module _ (t : Lent) where
-  visual-quiet : Quiet (quietAt t) (stepOf t) holding (λ k b. (caselessOf t b, punctuationOf (caselessOf t b) b))
+  pub visual-quiet : Quiet (quietAt t) (stepOf t) holding (λ k b. (caselessOf t b, punctuationOf (caselessOf t b) b))
   unfolding stepOf
   visual-quiet = record { steps = λ k b q. rw (is-ascii t b q, not-255 t b q, no-letter t b q); forgotten = λ k l a b. refl }
 
