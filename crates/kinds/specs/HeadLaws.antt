@@ -43,16 +43,19 @@ bare-plain pairs index extras weights = record { no-255 = λ b e. refl; no-lette
 
 -- ---- a plain byte passes each machine's own test
 module _ (b : ℕ) (e : plain b ≡ true) where
+  no-trigger : isTrigger b ≡ false
+  no-trigger = not-true _ (both (not (isTrigger b)) (not (isShift b)) e .0)
+
+  no-shift : isShift b ≡ false
+  no-shift = not-true _ (both (not (isTrigger b)) (not (isShift b)) e .1)
+
   plain-ascii : ascii b ≡ true
-  plain-ascii =
-      let t = neither (eqb b escape) (nonAscii b) (not-true _ (both (not (isTrigger b)) _ e .0)) in
-      lt-ltb b 0x80 (leb-false 0x80 b (t .1))
+  plain-ascii = lt-ltb b 0x80 (leb-false 0x80 b (neither (eqb b escape) (nonAscii b) no-trigger .1))
 
   plain-text : isText b ≡ true
   plain-text =
-      let t = neither (eqb b escape) (nonAscii b) (not-true _ (both (not (isTrigger b)) _ e .0)) in
-      let s = neither (eqb b 0x0E) (eqb b 0x0F) (not-true _ (both (not (isTrigger b)) _ e .1)) in
-      sym (text-rest b (eqb-false _ _ (t .0)) (eqb-false _ _ (s .0)) (eqb-false _ _ (s .1))) ∙ plain-ascii
+      let s = neither _ _ no-shift in
+      sym (text-rest b (eqb-false _ _ (neither (eqb b escape) (nonAscii b) no-trigger .0)) (eqb-false _ _ (s .0)) (eqb-false _ _ (s .1))) ∙ plain-ascii
 
 -- ---- the law
 module _ (o : Own) (p : Plain o) where
