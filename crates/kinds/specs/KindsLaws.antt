@@ -173,7 +173,6 @@ big5-closed m o = rw (big5-laws.true-sound limit m o)
 
 -- ---- exact lengths give each machine those that it asks
 pub sized-for : (t : Tables) → Sized t → (m : Machine) → SizedFor (ownOf t (kindOf m)) m
-unfolding kindOf
 sized-for t s (Utf8 m) = tt
 sized-for t s (Iso2022Jp m) = own-sized t s .iso2022jp
 sized-for t s (EucKr m) = own-sized t s .euckr
