@@ -1,6 +1,5 @@
 pub mod KindLaws
 pub mod Kinds
 pub mod KindsLaws
-pub mod Sized
 pub mod Sound
 pub mod SoundLaws
