@@ -17,7 +17,7 @@ abbrev pub Alike : Machine → Machine → Type 0
 Alike m k = freshIn k ≡ freshIn m
 
 kind-fresh : (m : Machine) → kindOf (freshIn m) ≡ kindOf m
-unfolding kindOf freshIn
+unfolding freshIn
 kind-fresh (Utf8 m) = refl
 kind-fresh (Iso2022Jp m) = refl
 kind-fresh (EucKr m) = refl
@@ -42,7 +42,7 @@ pub alike-kind : (m k : Machine) → Alike m k → kindOf k ≡ kindOf m
 alike-kind m k e = sym (kind-fresh k) ∙ (ap kindOf e ∙ kind-fresh m)
 
 space-fresh : (m : Machine) → takesSpace (freshIn m) ≡ takesSpace m
-unfolding takesSpace freshIn
+unfolding freshIn
 space-fresh (Utf8 m) = refl
 space-fresh (Iso2022Jp m) = refl
 space-fresh (EucKr m) = refl

@@ -38,7 +38,7 @@ use Rattle.kinds.specs.declared.machine.Ran.{Ran}
 use Rattle.kinds.specs.declared.machine.Ran.the-variants.{Live, Dropped, Unfit}
 
 -- the number of the place that holds machines of this kind
-unfoldable pub kindOf : Machine → ℕ
+abbrev pub kindOf : Machine → ℕ
 kindOf (Utf8 m) = 0
 kindOf (Iso2022Jp m) = 1
 kindOf (EucKr m) = 2

@@ -57,11 +57,8 @@ use Rattle.utf8.specs.declared.Ran.{Ran as Utf8Ran}
 use Rattle.utf8.specs.declared.Ran.the-variants as utf-8-ran
 use Rattle.utf8.specs.declared.Utf8.{Utf8 as Utf8Record}
 use Rattle.kinds.specs.Kinds.{kindOf, stepOf, closeOf, ranAs, ofUtf8, ofIso2022Jp, ofEucKr, ofBig5, ofCaseless, ofLogical, ofVisual, ofArabicFrench, ranOf, closedOf, Small, WeighedIn, Weighed}
-use Rattle.kinds.specs.Sized.{SizedFor}
 use Rattle.kinds.specs.Sound.{SoundFor}
-use Rattle.tables.specs.Own.{Own, ownOf, lentTo}
-use Rattle.tables.specs.OwnLaws.{own-sized}
-use Rattle.tables.specs.Tables.{Tables, Sized}
+use Rattle.tables.specs.Own.{Own, lentTo, SizedAt}
 use Rattle.kinds.specs.declared.machine.Machine.{Machine}
 use Rattle.kinds.specs.declared.machine.Machine.the-variants.{Utf8, Iso2022Jp, EucKr, Big5, Caseless, Logical, Visual, ArabicFrench}
 use Rattle.kinds.specs.declared.machine.Ran.{Ran}
@@ -171,22 +168,10 @@ big5-closed : (m : Big5Record) → big5.Sound limit m → big5.closedOf m ≡ bi
 unfolding big5.closedOf
 big5-closed m o = rw (big5-laws.true-sound limit m o)
 
--- ---- exact lengths give each machine those that it asks
-pub sized-for : (t : Tables) → Sized t → (m : Machine) → SizedFor (ownOf t (kindOf m)) m
-unfolding kindOf
-sized-for t s (Utf8 m) = tt
-sized-for t s (Iso2022Jp m) = own-sized t s .iso2022jp
-sized-for t s (EucKr m) = own-sized t s .euckr
-sized-for t s (Big5 m) = own-sized t s .big5
-sized-for t s (Caseless m) = own-sized t s .caseless
-sized-for t s (Logical m) = own-sized t s .logical
-sized-for t s (Visual m) = own-sized t s .visual
-sized-for t s (ArabicFrench m) = own-sized t s .arabicFrench
-
 module _ (t : Own) where
   -- ---- a stretch: what the code answers is the outcome of the run
   module _ (xs : List ℕ) (short : length xs ≤ limit) where
-    pub ran-fit : (m : Machine) → SizedFor t m → SoundFor limit limit m → ranOf t m xs ≡ ranAs (run (stepOf t) (live m (pos 0)) xs)
+    pub ran-fit : (m : Machine) → SizedAt (kindOf m) t → SoundFor limit limit m → ranOf t m xs ≡ ranAs (run (stepOf t) (live m (pos 0)) xs)
     unfolding ranOf
     ran-fit (Utf8 m) z o =
         ap ofUtf8 (utf-8-laws.ran-ready m xs (record { sound = o; short = short })) ∙ (utf-8-answer (run utf-8.stepOf (live m (pos 0)) xs) (utf-8-laws.run-keeps m (pos 0) xs o) ∙ ap ranAs (sym (run-utf-8 t (pos 0) xs m)))
@@ -202,7 +187,7 @@ module _ (t : Own) where
     ran-fit (ArabicFrench m) z o = ap ofArabicFrench (arabicFrench-laws.ran-fit (lentTo t) m xs (record { sized = z; sound = arabicFrench-laws.sound-more limit room m (omega arith) (o .1); short = short })) ∙ (arabicFrench-answer _ ∙ ap ranAs (sym (run-arabicFrench t (pos 0) xs m)))
 
   -- ---- the end of the stream, after a stretch
-  pub closed-fit : (m : Machine) → SizedFor t m → SoundFor (2 * limit) (2 * limit) m → closedOf t m ≡ ranAs (closeOf t m)
+  pub closed-fit : (m : Machine) → SizedAt (kindOf m) t → SoundFor (2 * limit) (2 * limit) m → closedOf t m ≡ ranAs (closeOf t m)
   unfolding closedOf closeOf
   closed-fit (Utf8 m) z o = ap ofUtf8 (utf-8-laws.closed-ready m o) ∙ utf-8-answer (utf-8.closeOf m) (utf-8-still m o)
   closed-fit (Iso2022Jp m) z o = ap ofIso2022Jp (iso2022jp-laws.closed-ready m o) ∙ iso2022jp-answer (iso2022jp.closeOf m) (iso2022jp-still m o)

@@ -16,7 +16,7 @@ use Rattle.kinds.specs.declared.machine.Machine.{Machine}
 use Rattle.kinds.specs.declared.machine.Machine.the-variants.{Utf8, Iso2022Jp, EucKr, Big5, Caseless, Logical, Visual, ArabicFrench}
 
 -- the end of the stream is a space to it, one byte more
-unfoldable pub takesSpace : Machine → Bool
+abbrev pub takesSpace : Machine → Bool
 takesSpace (Utf8 m) = false
 takesSpace (Iso2022Jp m) = false
 takesSpace (EucKr m) = false

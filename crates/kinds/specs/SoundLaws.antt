@@ -188,7 +188,7 @@ end-arabicFrench t n m k g h e =
 
 module _ (t : Own) (n : ℕ) where
   pub close-sound : (m : Machine) → SoundFor n n m → Holds (SoundFor n (reachOf m n true)) (closeOf t m)
-  unfolding closeOf reachOf takesSpace
+  unfolding closeOf reachOf
   close-sound (Utf8 m) o = holds-carried Utf8 (SoundFor n n) (utf-8.closeOf m) (ends-holds utf-8.Sound (pos 0) (utf-8.closeOf m) (utf-8-still m o))
   close-sound (Iso2022Jp m) o = holds-carried Iso2022Jp (SoundFor n n) (iso2022jp.closeOf m) (ends-holds iso2022jp.Sound (pos 0) (iso2022jp.closeOf m) (iso2022jp-still m o))
   close-sound (EucKr m) o = holds-carried EucKr (SoundFor n n) (euckr.closeOf m) (either (Holds (euckr.Sound n)) (eqb (m .lead) 0) (λ e. o) (λ e. tt))

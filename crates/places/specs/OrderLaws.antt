@@ -217,7 +217,7 @@ module _ (s : Singles) (w : List ℤ) where
     pub within : n + more ≤ reachOf m n true
 
   room : (n : ℕ) (m : Machine) → SoundFor n n m → SmallOut perByte (closeOf s w m) → Room n m
-  unfolding closeOf reachOf takesSpace kindOf
+  unfolding closeOf reachOf
   room n (Utf8 m) o q = record { more = 0; small = ends-small utf-8.Sound Utf8 (utf-8.closeOf m) (utf-8-still m o); within = omega arith }
   room n (Iso2022Jp m) o q = record { more = 0; small = ends-small iso2022jp.Sound Iso2022Jp (iso2022jp.closeOf m) (iso2022jp-still m o); within = omega arith }
   room n (EucKr m) o q = record { more = 0; small = ends-small (λ (x : EucKrRecord). Unit {0}) EucKr (euckr.closeOf m) (either (Ends (λ (x : EucKrRecord). Unit {0}) (pos 0)) (eqb (m .lead) 0) (λ e. (tt, refl)) (λ e. tt)); within = omega arith }

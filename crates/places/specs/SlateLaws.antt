@@ -61,7 +61,7 @@ begun k m t e f =
     }
 
 pub start-for : (bits : ℕ) → SlateFor 0 false false (startOf bits)
-unfolding startOf kindOf freshIn
+unfolding startOf freshIn
 start-for bits =
     record {
       most = omega arith;

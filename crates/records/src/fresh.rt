@@ -14,14 +14,13 @@ use iso2022jp::OutputState;
 use kinds::machine::Machine;
 use logical::Logical;
 use pairs::Held;
-use tables::tests::both;
 use utf8::Utf8;
 use visual::Visual;
 
 fn is_fresh_utf8(m: Utf8) -> bool
     ensures { λ r. ⌜ r ≡ freshUtf8B m ⌝ }
 {
-    both(m.need == 0, both(m.lo == Utf8::LOWER, m.hi == Utf8::UPPER))
+    m.need == 0 && (m.lo == Utf8::LOWER && m.hi == Utf8::UPPER)
 }
 
 fn is_ascii_state(state: DecoderState) -> bool
@@ -54,10 +53,7 @@ fn is_fresh_iso2022jp(m: Iso2022Jp) -> bool
 {
     let state = m.state;
     let out = m.out;
-    both(
-        is_ascii_state(state),
-        both(is_ascii_out(out), both(m.lead == 0, !m.output)),
-    )
+    is_ascii_state(state) && (is_ascii_out(out) && (m.lead == 0 && !m.output))
 }
 
 fn is_empty(held: Held) -> bool
@@ -85,9 +81,10 @@ fn is_fresh_euckr(m: EucKr) -> bool
 {
     let prev = m.prev;
     let held = m.held;
-    let counts = both(m.current_word_len == 0, is_empty(held));
-    let bytes = both(m.prev_byte == 0, both(!m.prev_was_euc_range, counts));
-    both(is_other_korean(prev), both(m.lead == 0, bytes))
+    is_other_korean(prev)
+        && (m.lead == 0
+            && (m.prev_byte == 0
+                && (!m.prev_was_euc_range && (m.current_word_len == 0 && is_empty(held)))))
 }
 
 fn is_other_cj(prev: LatinCj) -> bool
@@ -105,17 +102,14 @@ fn is_fresh_big5(m: Big5) -> bool
 {
     let prev = m.prev;
     let held = m.held;
-    both(
-        is_other_cj(prev),
-        both(m.lead == 0, both(m.prev_byte == 0, is_empty(held))),
-    )
+    is_other_cj(prev) && (m.lead == 0 && (m.prev_byte == 0 && is_empty(held)))
 }
 
 // What the four single-byte machines share.
 fn is_fresh_common(prev: u8, prev_ascii: bool, word: u64, longest: u64) -> bool
     ensures { λ r. ⌜ r ≡ freshCommonB prev «prev_ascii» word longest ⌝ }
 {
-    both(prev == 0, both(prev_ascii, both(word == 0, longest == 0)))
+    prev == 0 && (prev_ascii && (word == 0 && longest == 0))
 }
 
 fn is_fresh_caseless(m: Caseless) -> bool
@@ -127,18 +121,16 @@ fn is_fresh_caseless(m: Caseless) -> bool
 fn is_fresh_logical(m: Logical) -> bool
     ensures { λ r. ⌜ r ≡ freshLogicalB m ⌝ }
 {
-    let common = is_fresh_common(m.prev, m.prev_ascii, m.current_word_len, m.longest_word);
-    both(m.plausible_punctuation == 0, common)
+    m.plausible_punctuation == 0
+        && is_fresh_common(m.prev, m.prev_ascii, m.current_word_len, m.longest_word)
 }
 
 fn is_fresh_visual(m: Visual) -> bool
     ensures { λ r. ⌜ r ≡ freshVisualB m ⌝ }
 {
-    let common = is_fresh_common(m.prev, m.prev_ascii, m.current_word_len, m.longest_word);
-    both(
-        m.plausible_punctuation == 0,
-        both(!m.prev_punctuation, common),
-    )
+    m.plausible_punctuation == 0
+        && (!m.prev_punctuation
+            && is_fresh_common(m.prev, m.prev_ascii, m.current_word_len, m.longest_word))
 }
 
 fn is_space_case(case_state: LatinCaseState) -> bool
@@ -156,8 +148,8 @@ fn is_fresh_arabic_french(m: ArabicFrench) -> bool
     ensures { λ r. ⌜ r ≡ freshArabicFrenchB m ⌝ }
 {
     let case_state = m.case_state;
-    let common = is_fresh_common(m.prev, m.prev_ascii, m.current_word_len, m.longest_word);
-    both(is_space_case(case_state), common)
+    is_space_case(case_state)
+        && is_fresh_common(m.prev, m.prev_ascii, m.current_word_len, m.longest_word)
 }
 
 pub fn is_fresh(machine: Machine) -> bool

@@ -3,20 +3,27 @@ ghost use mathlib.Core.Path.{_≡_};
 ghost use Rattle.kinds.specs.Sound.{takesSpace, soundLogicalB, soundB};
 use kinds::machine::Machine;
 use logical::Logical;
-use tables::tests::both;
 
 // Whether the end of the stream is a space to it, one byte more.
 pub fn takes_space(machine: Machine) -> bool
     ensures { λ r. ⌜ r ≡ takesSpace machine ⌝ }
 {
-    4 <= machine.kind()
+    match machine {
+        Machine::Utf8(_) => false,
+        Machine::Iso2022Jp(_) => false,
+        Machine::EucKr(_) => false,
+        Machine::Big5(_) => false,
+        Machine::Caseless(_) => true,
+        Machine::Logical(_) => true,
+        Machine::Visual(_) => true,
+        Machine::ArabicFrench(_) => true,
+    }
 }
 
 fn is_sound_logical(m: Logical, bytes: u64, reach: u64) -> bool
     ensures { λ r. ⌜ r ≡ soundLogicalB bytes reach m ⌝ }
 {
-    let longest = both(m.longest_word <= bytes, m.is_sound_for(reach));
-    both(m.plausible_punctuation <= bytes, longest)
+    m.plausible_punctuation <= bytes && (m.longest_word <= bytes && m.is_sound_for(reach))
 }
 
 // Whether so many bytes can have led to it. `reach` has the closing space besides: it can lengthen a word and, in visual
@@ -29,9 +36,9 @@ pub fn is_sound(machine: Machine, bytes: u64, reach: u64) -> bool
         Machine::Iso2022Jp(m) => m.is_sound(),
         Machine::EucKr(m) => m.is_sound_for(bytes),
         Machine::Big5(m) => m.is_sound_for(bytes),
-        Machine::Caseless(m) => both(m.longest_word <= bytes, m.is_sound_for(reach)),
+        Machine::Caseless(m) => m.longest_word <= bytes && m.is_sound_for(reach),
         Machine::Logical(m) => is_sound_logical(m, bytes, reach),
-        Machine::Visual(m) => both(m.longest_word <= bytes, m.is_sound_for(reach)),
-        Machine::ArabicFrench(m) => both(m.longest_word <= bytes, m.is_sound_for(reach)),
+        Machine::Visual(m) => m.longest_word <= bytes && m.is_sound_for(reach),
+        Machine::ArabicFrench(m) => m.longest_word <= bytes && m.is_sound_for(reach),
     }
 }

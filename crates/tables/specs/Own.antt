@@ -1,9 +1,11 @@
--- One place's own tables, and which of all tables they are. Assumes nothing.
+-- One place's own tables: which of all tables they are, and how long its machine asks them to be. Assumes nothing.
+use mathlib.Core.Path.{_≡_}
 use mathlib.Core.List.{List, [], _∷_}
 use Prim.Native.Nat.{ℕ}
 use lib.IntN.{ℤ}
-use lib.ListN.{getD}
-use Rattle.single.specs.Lent.{Lent, lent}
+use lib.ListN.{length, getD}
+use Rattle.lengths.specs.Lengths.{big5Count, eucKrCount, jisCount, extraCount, weightCount}
+use Rattle.single.specs.Lent.{Lent, lent, Sized as SingleSized}
 use Rattle.tables.specs.Tables.{Single, Tables}
 
 -- a table that the place does not have is empty
@@ -43,3 +45,16 @@ ownOf t k = getD (owns t) k nothing
 -- as a single-byte machine takes them
 abbrev pub lentTo : Own → Lent
 lentTo o = lent (o .classes) (o .marks) (o .pairs) (o .weights)
+
+-- ---- the lengths that each place's machine asks, in the same order
+abbrev pub asked : Own → List (Type 0)
+asked o =
+    let utf8 = Unit {0} in
+    let iso2022jp = length (o .index) ≡ jisCount in
+    let euckr = (length (o .index) ≡ eucKrCount) × ((length (o .extras) ≡ extraCount) × (length (o .weights) ≡ weightCount)) in
+    let big5 = (length (o .index) ≡ big5Count) × (length (o .weights) ≡ weightCount) in
+    let single = SingleSized (lentTo o) in
+    utf8 ∷ iso2022jp ∷ euckr ∷ big5 ∷ single ∷ single ∷ single ∷ single ∷ []
+
+abbrev pub SizedAt : ℕ → Own → Type 0
+SizedAt k o = getD (asked o) k (Unit {0})

@@ -1,6 +1,8 @@
 -- `is_fresh_iso2022jp` meets its contract. Assumes nothing.
-use Rattle.records.specs.Fresh.{freshIso2022JpB}
+use mathlib.Core.Path.{sym, _∙_}
+use borrow.Author.Tests.{eq-eqb, ne-eqb}
 use borrow.Author.Needs.{needs}
+use Rattle.records.specs.Fresh.{freshIso2022JpB}
 use Rattle.records.proofs.fresh.is_fresh_iso2022jp.Statement.{statement}
 use Rattle.records.proofs.fresh.is_fresh_iso2022jp.Tie as tie
 
@@ -10,26 +12,21 @@ is-ascii-state-requires c κs = search needs
 is-ascii-out-requires : tie.Need-is-ascii-out-requires
 is-ascii-out-requires c κs = search needs
 
-both-requires : tie.Need-both-requires
-both-requires c κs = search needs
-
-both-requires-2 : tie.Need-both-requires-2
-both-requires-2 c κs = search needs
-
-both-requires-3 : tie.Need-both-requires-3
-both-requires-3 c κs = search needs
-
 returns : tie.Need-returns
 unfolding freshIso2022JpB
-returns c = rw (c .both3 .ensures, c .before .both2 .ensures, c .before .before .both .ensures, c .before .before .before .before .before .is-ascii-out .ensures, c .before .before .before .before .before .before .is-ascii-state .ensures)
+returns c = rw (sym (c .before .before .before .before .before .before .is-ascii-state .ensures) ∙ c .before .before .before .before .before .if1 .taken, sym (c .before .before .before .before .is-ascii-out .ensures) ∙ c .before .before .before .if2 .taken, eq-eqb _ _ (c .before .if3 .taken))
+
+returns-2 : tie.Need-returns-2
+unfolding freshIso2022JpB
+returns-2 c = rw (sym (c .before .before .before .before .before .is-ascii-state .ensures) ∙ c .before .before .before .before .if1 .taken, sym (c .before .before .before .is-ascii-out .ensures) ∙ c .before .before .if2 .taken, ne-eqb _ _ (c .if3 .left))
+
+returns-3 : tie.Need-returns-3
+unfolding freshIso2022JpB
+returns-3 c = rw (sym (c .before .before .before .is-ascii-state .ensures) ∙ c .before .before .if1 .taken, sym (c .before .is-ascii-out .ensures) ∙ c .if2 .left) (c .if2 .left)
+
+returns-4 : tie.Need-returns-4
+unfolding freshIso2022JpB
+returns-4 c = rw (sym (c .before .is-ascii-state .ensures) ∙ c .if1 .left) (c .if1 .left)
 
 pub is-fresh-iso2022jp-spec : {M : Type 1} → statement M
-is-fresh-iso2022jp-spec =
-    tie.close
-    (tie.spec
-    is-ascii-state-requires
-    is-ascii-out-requires
-    both-requires
-    both-requires-2
-    both-requires-3
-    returns)
+is-fresh-iso2022jp-spec = tie.close (tie.spec is-ascii-state-requires is-ascii-out-requires returns returns-2 returns-3 returns-4)

@@ -1,6 +1,7 @@
 -- `is_sound` meets its contract. Assumes nothing.
 use Rattle.kinds.specs.Sound.{soundB}
 use borrow.Author.Needs.{needs}
+use borrow.Author.Tests.{le-leb, lt-leb}
 use Rattle.records.proofs.sound.is_sound.Statement.{statement}
 use Rattle.records.proofs.sound.is_sound.Tie as tie
 
@@ -34,9 +35,6 @@ enum-known-machine-5 c = search needs
 is-sound-for-requires-3 : tie.Need-is-sound-for-requires-3
 is-sound-for-requires-3 c κs = search needs
 
-both-requires : tie.Need-both-requires
-both-requires c κs = search needs
-
 enum-known-machine-6 : tie.Need-enum-known-machine-6
 enum-known-machine-6 c = search needs
 
@@ -49,17 +47,11 @@ enum-known-machine-7 c = search needs
 is-sound-for-requires-4 : tie.Need-is-sound-for-requires-4
 is-sound-for-requires-4 c κs = search needs
 
-both-requires-2 : tie.Need-both-requires-2
-both-requires-2 c κs = search needs
-
 enum-known-machine-8 : tie.Need-enum-known-machine-8
 enum-known-machine-8 c = search needs
 
 is-sound-for-requires-5 : tie.Need-is-sound-for-requires-5
 is-sound-for-requires-5 c κs = search needs
-
-both-requires-3 : tie.Need-both-requires-3
-both-requires-3 c κs = search needs
 
 returns : tie.Need-returns
 unfolding soundB
@@ -79,48 +71,31 @@ returns-4 c = rw (c .is-sound-for2 .ensures, c .before .before .machine4 .given 
 
 returns-5 : tie.Need-returns-5
 unfolding soundB
-returns-5 c = rw (c .both .ensures, c .before .is-sound-for3 .ensures, c .before .before .before .before .machine5 .given .1)
+returns-5 c = rw (c .before .before .before .before .machine5 .given .1, le-leb _ _ (c .before .if1 .taken)) (c .is-sound-for3 .ensures)
 
 returns-6 : tie.Need-returns-6
 unfolding soundB
-returns-6 c = rw (c .is-sound-logical .ensures, c .before .before .machine6 .given .1)
+returns-6 c = rw (c .before .before .before .machine5 .given .1, lt-leb _ _ (c .if1 .left))
 
 returns-7 : tie.Need-returns-7
 unfolding soundB
-returns-7 c = rw (c .both2 .ensures, c .before .is-sound-for4 .ensures, c .before .before .before .before .machine7 .given .1)
+returns-7 c = rw (c .is-sound-logical .ensures, c .before .before .machine6 .given .1)
 
 returns-8 : tie.Need-returns-8
 unfolding soundB
-returns-8 c = rw (c .both3 .ensures, c .before .is-sound-for5 .ensures, c .before .before .before .before .machine8 .given .1)
+returns-8 c = rw (c .before .before .before .before .machine7 .given .1, le-leb _ _ (c .before .if2 .taken)) (c .is-sound-for4 .ensures)
+
+returns-9 : tie.Need-returns-9
+unfolding soundB
+returns-9 c = rw (c .before .before .before .machine7 .given .1, lt-leb _ _ (c .if2 .left))
+
+returns-10 : tie.Need-returns-10
+unfolding soundB
+returns-10 c = rw (c .before .before .before .before .machine8 .given .1, le-leb _ _ (c .before .if3 .taken)) (c .is-sound-for5 .ensures)
+
+returns-11 : tie.Need-returns-11
+unfolding soundB
+returns-11 c = rw (c .before .before .before .machine8 .given .1, lt-leb _ _ (c .if3 .left))
 
 pub is-sound-spec : {M : Type 1} → statement M
-is-sound-spec =
-    tie.close
-    (tie.spec
-    enum-known-machine
-    is-sound-requires
-    enum-known-machine-2
-    is-sound-requires-2
-    enum-known-machine-3
-    is-sound-for-requires
-    enum-known-machine-4
-    is-sound-for-requires-2
-    enum-known-machine-5
-    is-sound-for-requires-3
-    both-requires
-    enum-known-machine-6
-    is-sound-logical-requires
-    enum-known-machine-7
-    is-sound-for-requires-4
-    both-requires-2
-    enum-known-machine-8
-    is-sound-for-requires-5
-    both-requires-3
-    returns
-    returns-2
-    returns-3
-    returns-4
-    returns-5
-    returns-6
-    returns-7
-    returns-8)
+is-sound-spec = tie.close (tie.spec enum-known-machine is-sound-requires enum-known-machine-2 is-sound-requires-2 enum-known-machine-3 is-sound-for-requires enum-known-machine-4 is-sound-for-requires-2 enum-known-machine-5 is-sound-for-requires-3 enum-known-machine-6 is-sound-logical-requires enum-known-machine-7 is-sound-for-requires-4 enum-known-machine-8 is-sound-for-requires-5 returns returns-2 returns-3 returns-4 returns-5 returns-6 returns-7 returns-8 returns-9 returns-10 returns-11)

@@ -1,22 +1,24 @@
 -- `is_sound_logical` meets its contract. Assumes nothing.
-use Rattle.kinds.specs.Sound.{soundLogicalB}
+use borrow.Author.Tests.{le-leb, lt-leb}
 use borrow.Author.Needs.{needs}
+use Rattle.kinds.specs.Sound.{soundLogicalB}
 use Rattle.records.proofs.sound.is_sound_logical.Statement.{statement}
 use Rattle.records.proofs.sound.is_sound_logical.Tie as tie
 
 is-sound-for-requires : tie.Need-is-sound-for-requires
 is-sound-for-requires c κs = search needs
 
-both-requires : tie.Need-both-requires
-both-requires c κs = search needs
-
-both-requires-2 : tie.Need-both-requires-2
-both-requires-2 c κs = search needs
-
 returns : tie.Need-returns
 unfolding soundLogicalB
-returns c = rw (c .both2 .ensures, c .before .before .both .ensures, c .before .before .before .is-sound-for .ensures)
+returns c = rw (le-leb _ _ (c .before .before .before .if1 .taken), le-leb _ _ (c .before .if2 .taken)) (c .is-sound-for .ensures)
+
+returns-2 : tie.Need-returns-2
+unfolding soundLogicalB
+returns-2 c = rw (le-leb _ _ (c .before .before .if1 .taken), lt-leb _ _ (c .if2 .left))
+
+returns-3 : tie.Need-returns-3
+unfolding soundLogicalB
+returns-3 c = rw (lt-leb _ _ (c .if1 .left))
 
 pub is-sound-logical-spec : {M : Type 1} → statement M
-is-sound-logical-spec =
-    tie.close (tie.spec is-sound-for-requires both-requires both-requires-2 returns)
+is-sound-logical-spec = tie.close (tie.spec is-sound-for-requires returns returns-2 returns-3)
