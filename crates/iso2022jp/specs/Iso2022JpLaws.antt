@@ -26,25 +26,7 @@ use Rattle.iso2022jp.specs.declared.Designated.the-variants.{To, Nothing
 use Rattle.iso2022jp.specs.declared.Iso2022Jp.{Iso2022Jp}
 use Rattle.iso2022jp.specs.declared.Ran.{Ran}
 use Rattle.iso2022jp.specs.declared.Ran.the-variants.{Unfit}
-use Rattle.iso2022jp.specs.Iso2022Jp.{Passes, holds, fresh, LeadIn, Sound, leadsEscape, leadInB, soundB, mapped, indexedBy, alive, escapeByte, putOut, isText, asciiOf, rangedOf, pairAt, trailOf, escapeStartOf, designated, stateOf, escapedTo, stepIn, stepOf, closeOf, ranAs, Ready, readyB, ranOf, closedOf}
-
--- ---- an entry of the index, each way through the code
-module _ (entry : ℕ) where
-  pub mapped-low : entry < 0x80 → false ≡ mapped entry
-  unfolding mapped
-  mapped-low h = rw (below 0x80 0xD7FF entry h, below 0xE000 0xFFFF entry (omega arith))
-
-  pub mapped-first : 0x80 ≤ entry → entry ≤ 0xD7FF → true ≡ mapped entry
-  unfolding mapped
-  mapped-first p q = rw (inside 0x80 0xD7FF entry p q)
-
-  pub mapped-gap : 0xD7FF < entry → entry < 0xE000 → false ≡ mapped entry
-  unfolding mapped
-  mapped-gap p q = rw (above 0x80 0xD7FF entry p, below 0xE000 0xFFFF entry q)
-
-  pub mapped-second : 0xE000 ≤ entry → leb entry 0xFFFF ≡ mapped entry
-  unfolding mapped
-  mapped-second p = rw (above 0x80 0xD7FF entry (omega arith), le-leb 0xE000 entry p)
+use Rattle.iso2022jp.specs.Iso2022Jp.{Passes, holds, fresh, LeadIn, Sound, leadsEscape, leadInB, soundB, indexedBy, alive, escapeByte, putOut, isText, asciiOf, rangedOf, pairAt, trailOf, escapeStartOf, designated, stateOf, escapedTo, stepIn, stepOf, closeOf, ranAs, Ready, readyB, ranOf, closedOf}
 
 -- ---- a byte in ASCII and Roman
 module _ (b : ℕ) where
