@@ -1,5 +1,9 @@
 pub mod Pairs
+pub mod Standard
+pub mod Events
 pub mod PairsLaws
+pub mod Places
+pub mod PlacesLaws
 pub mod Sequences
 pub mod Ranges
 pub mod Sums

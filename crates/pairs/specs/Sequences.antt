@@ -1,78 +1,125 @@
--- Which byte sequences a pair decoder takes for what, from where no lead is pending. The encoding's own rule is pair, and Pair
--- says which leads and trails yield what. Both ways: the decoder reads a sequence and yields an event exactly if the sequence
--- is an ASCII byte, a lone byte that is an error, or a pair of which Pair holds. Assumes nothing.
+-- Which byte sequences a pair decoder takes for what, from where no lead is pending. Said by the trail bytes and by what
+-- stands at a pair's place, and not by the decoder's own pointer. Both ways: the decoder reads a sequence and yields an event
+-- exactly if Yields says so. Assumes nothing.
 use mathlib.Core.Path.{_≡_, refl, sym, ap, _∙_}
-use mathlib.Core.Bool.{Bool, true, false}
+use mathlib.Core.Bool.{Bool, true, false, cond}
 use mathlib.Core.List.{List, [], _∷_}
-use Prim.Native.Nat.{ℕ}
+use Prim.Native.Nat.{ℕ, _-_}
 use native.Mathlib.Omega.{arith}
 use lib.Dec.{eqb}
+use lib.ListN.{length}
 use borrow.Author.Tests.{ne-eqb, le-ltb}
+use Rattle.laws.specs.Handler.{after}
+use Rattle.laws.specs.Tests.{through}
 use Rattle.octets.specs.Octets.{ascii}
-use Rattle.pairs.specs.Pairs.{isLead, decoded, firstOf, handlerOf}
-use Rattle.pairs.specs.PairsLaws.{lead-bounds}
+use Rattle.pairs.specs.Pairs.{isLead, decoded}
+use Rattle.pairs.specs.PairsLaws.{lead-bounds, returned-lead}
+use Rattle.pairs.specs.Places.{placeOf}
+use Rattle.pairs.specs.PlacesLaws.{Counted, pointer-place}
+use Rattle.pairs.specs.Standard.{CodePoints, null, one, two, Encoding, first, returned, pointer, next}
+use Rattle.pairs.specs.Events.{pointsAs, eventOf, seenBy, firstOf, malformedOf}
 use Rattle.pairs.specs.declared.Decoded.{Decoded}
 use Rattle.pairs.specs.declared.Event.{Event}
-use Rattle.pairs.specs.declared.Event.the-variants.{Pending, Point, Error}
+use Rattle.pairs.specs.declared.Event.the-variants.{Pending, Point, Two, Error}
 
-module _ (Pair : ℕ → ℕ → Event → Type 0) where
+-- the error of a lead and a byte that makes no pair with it
+abbrev pub errorAt : ℕ → Event
+errorAt b = cond (ascii b) (Error 1) (Error 2)
+
+module _ (isTrail : ℕ → Bool) (points : ℕ → CodePoints) where
   pub data Yields : List ℕ → Event → Type 0 where
     ascii-byte : (b : ℕ) → ascii b ≡ true → Yields (b ∷ []) (Point b)
     lone-byte : (b : ℕ) → ascii b ≡ false → isLead b ≡ false → Yields (b ∷ []) (Error 1)
-    a-pair : (lead b : ℕ) (e : Event) → isLead lead ≡ true → Pair lead b e → Yields (lead ∷ b ∷ []) e
+    one-point : (lead b p : ℕ) → isLead lead ≡ true → isTrail b ≡ true → points (placeOf isTrail lead b) ≡ one p → Yields (lead ∷ b ∷ []) (Point p)
+    two-points : (lead b p q : ℕ) → isLead lead ≡ true → isTrail b ≡ true → points (placeOf isTrail lead b) ≡ two p q → Yields (lead ∷ b ∷ []) (Two p q)
+    no-point : (lead b : ℕ) → isLead lead ≡ true → isTrail b ≡ true → points (placeOf isTrail lead b) ≡ null → Yields (lead ∷ b ∷ []) (errorAt b)
+    no-trail : (lead b : ℕ) → isLead lead ≡ true → isTrail b ≡ false → Yields (lead ∷ b ∷ []) (errorAt b)
 
-module _ (pair : ℕ → ℕ → Event) where
-  -- the decoder takes in the bytes, all of them, and yields the event at the last one
-  abbrev pub Reads : List ℕ → Event → Type 0
-  Reads [] e = ⊥
-  Reads (b ∷ []) e = handlerOf pair 0 b ≡ decoded 0 e
-  Reads (lead ∷ b ∷ []) e = (handlerOf pair 0 lead ≡ decoded lead Pending) × (handlerOf pair lead b ≡ decoded 0 e)
-  Reads (a ∷ b ∷ c ∷ bs) e = ⊥
+-- the decoder takes in the bytes, all of them, and yields the event at the last one
+abbrev pub Reads : Encoding → List ℕ → Event → Type 0
+Reads e [] v = ⊥
+Reads e (b ∷ []) v = seenBy e 0 b ≡ decoded 0 v
+Reads e (lead ∷ b ∷ []) v = (seenBy e 0 lead ≡ decoded lead Pending) × (seenBy e lead b ≡ decoded 0 v)
+Reads e (a ∷ b ∷ c ∷ bs) v = ⊥
 
 -- ---- a byte where no lead is pending
 lead-no-ascii : (b : ℕ) → isLead b ≡ true → ascii b ≡ false
 lead-no-ascii b e = let h = lead-bounds b e in le-ltb b 0x80 (omega arith)
 
 pub first-lead : (b : ℕ) → isLead b ≡ true → firstOf b ≡ decoded b Pending
-unfolding firstOf
+unfolding first after eventOf
 first-lead b e = rw (lead-no-ascii b e, e)
 
 pub first-ascii : (b : ℕ) → ascii b ≡ true → firstOf b ≡ decoded 0 (Point b)
-unfolding firstOf
+unfolding first after eventOf pointsAs
 first-ascii b e = rw e
 
 pub first-lone : (b : ℕ) → ascii b ≡ false → isLead b ≡ false → firstOf b ≡ decoded 0 (Error 1)
-unfolding firstOf
+unfolding first after eventOf
 first-lone b e f = rw (e, f)
 
-module _ (pair : ℕ → ℕ → Event) (Pair : ℕ → ℕ → Event → Type 0) where
-  pub lead-not-zero : (lead : ℕ) → isLead lead ≡ true → eqb lead 0 ≡ false
-  lead-not-zero lead e = let h = lead-bounds lead e in ne-eqb lead 0 (λ z. omega arith)
+-- ---- a byte after a lead
+pub lead-not-zero : (lead : ℕ) → isLead lead ≡ true → eqb lead 0 ≡ false
+lead-not-zero lead e = let h = lead-bounds lead e in ne-eqb lead 0 (λ z. omega arith)
 
-  pub yields-reads : ((lead b : ℕ) (e : Event) → Pair lead b e → pair lead b ≡ e) → (bs : List ℕ) (e : Event) → Yields Pair bs e → Reads pair bs e
-  yields-reads right bs e (ascii-byte b p) = first-ascii b p
-  yields-reads right bs e (lone-byte b p q) = first-lone b p q
-  yields-reads right bs e (a-pair lead b e' p q) = (first-lead lead p, rw (lead-not-zero lead p, right lead b e q))
+pub pair-seen : (e : Encoding) (lead b : ℕ) → isLead lead ≡ true → seenBy e lead b ≡ decoded 0 (eventOf 2 (next e lead b))
+pair-seen e lead b l = rw (lead-not-zero lead l, returned-lead b _)
 
-  one-byte : (b : ℕ) (e : Event) (s t : Bool) → ascii b ≡ s → isLead b ≡ t → firstOf b ≡ decoded 0 e → Yields Pair (b ∷ []) e
-  one-byte b e true t p q r = let f : e ≡ Point b = ap (λ (d : Decoded). d .event) (sym r ∙ first-ascii b p) in rw f (ascii-byte b p)
-  one-byte b e false true p q r =
+pub malformed-is : (b : ℕ) → malformedOf b ≡ errorAt b
+unfolding returned eventOf
+malformed-is b = through (λ (xs : List ℕ). Error (2 - length xs)) (ascii b) (b ∷ []) []
+
+module _ (e : Encoding) (counted : Counted e) where
+  abbrev Yielded : List ℕ → Event → Type 0
+  Yielded bs v = Yields (e .is-trail) (e .points) bs v
+
+  module _ (lead b : ℕ) (l : isLead lead ≡ true) where
+    -- what stands at the pair's place is seen
+    seen-at : (ps : CodePoints) → e .is-trail b ≡ true → e .points (placeOf (e .is-trail) lead b) ≡ ps → seenBy e lead b ≡ decoded 0 (eventOf 2 (returned b ps))
+    seen-at ps t h = pair-seen e lead b l ∙ rw (t, pointer-place e counted lead b l t, h)
+
+    seen-no-trail : e .is-trail b ≡ false → seenBy e lead b ≡ decoded 0 (errorAt b)
+    seen-no-trail t = pair-seen e lead b l ∙ rw (t, malformed-is b)
+
+  pub yields-reads : (bs : List ℕ) (v : Event) → Yielded bs v → Reads e bs v
+  unfolding returned eventOf pointsAs
+  yields-reads bs v (ascii-byte b p) = first-ascii b p
+  yields-reads bs v (lone-byte b p q) = first-lone b p q
+  yields-reads bs v (one-point lead b p l t h) = (first-lead lead l, seen-at lead b l (one p) t h)
+  yields-reads bs v (two-points lead b p q l t h) = (first-lead lead l, seen-at lead b l (two p q) t h)
+  yields-reads bs v (no-point lead b l t h) = (first-lead lead l, seen-at lead b l null t h ∙ ap (decoded 0) (malformed-is b))
+  yields-reads bs v (no-trail lead b l t) = (first-lead lead l, seen-no-trail lead b l t)
+
+  -- ---- and back
+  module _ (lead b : ℕ) (l : isLead lead ≡ true) where
+    point-yields : (ps : CodePoints) → e .is-trail b ≡ true → e .points (placeOf (e .is-trail) lead b) ≡ ps → Yielded (lead ∷ b ∷ []) (eventOf 2 (returned b ps))
+    unfolding returned eventOf pointsAs
+    point-yields null t h = rw (malformed-is b) (no-point lead b l t h)
+    point-yields (one p) t h = one-point lead b p l t h
+    point-yields (two p q) t h = two-points lead b p q l t h
+
+    pair-yields : (v : Event) (t : Bool) → e .is-trail b ≡ t → seenBy e lead b ≡ decoded 0 v → Yielded (lead ∷ b ∷ []) v
+    pair-yields v true t r =
+        let ps = e .points (placeOf (e .is-trail) lead b) in
+        let f : v ≡ eventOf 2 (returned b ps) = ap (λ (d : Decoded). d .event) (sym r ∙ seen-at lead b l ps t refl) in
+        rw f (point-yields ps t refl)
+    pair-yields v false t r = let f : v ≡ errorAt b = ap (λ (d : Decoded). d .event) (sym r ∙ seen-no-trail lead b l t) in rw f (no-trail lead b l t)
+
+  byte-yields : (b : ℕ) (v : Event) (s t : Bool) → ascii b ≡ s → isLead b ≡ t → firstOf b ≡ decoded 0 v → Yielded (b ∷ []) v
+  byte-yields b v true t p q r = let f : v ≡ Point b = ap (λ (d : Decoded). d .event) (sym r ∙ first-ascii b p) in rw f (ascii-byte b p)
+  byte-yields b v false true p q r =
       let z : b ≡ 0 = ap (λ (d : Decoded). d .lead) (sym (first-lead b q) ∙ r) in
-      let h = lead-bounds b q in
-      absurd (omega arith)
-  one-byte b e false false p q r = let f : e ≡ Error 1 = ap (λ (d : Decoded). d .event) (sym r ∙ first-lone b p q) in rw f (lone-byte b p q)
+      absurd (omega (arith, lead-bounds b q))
+  byte-yields b v false false p q r = let f : v ≡ Error 1 = ap (λ (d : Decoded). d .event) (sym r ∙ first-lone b p q) in rw f (lone-byte b p q)
 
   is-lead : (lead : ℕ) (s t : Bool) → ascii lead ≡ s → isLead lead ≡ t → firstOf lead ≡ decoded lead Pending → isLead lead ≡ true
   is-lead lead true t p q r = let f : Pending ≡ Point lead = ap (λ (d : Decoded). d .event) (sym r ∙ first-ascii lead p) in cc
   is-lead lead false true p q r = q
   is-lead lead false false p q r = let f : Pending ≡ Error 1 = ap (λ (d : Decoded). d .event) (sym r ∙ first-lone lead p q) in cc
 
-  pub reads-yields : ((lead b : ℕ) → Pair lead b (pair lead b)) → (bs : List ℕ) (e : Event) → Reads pair bs e → Yields Pair bs e
-  reads-yields all [] e r = absurd r
-  reads-yields all (b ∷ []) e r = one-byte b e (ascii b) (isLead b) refl refl r
-  reads-yields all (lead ∷ b ∷ []) e r =
-      let l = is-lead lead (ascii lead) (isLead lead) refl refl (r .0) in
-      let f : pair lead b ≡ e = ap (λ (d : Decoded). d .event) (rw (lead-not-zero lead l) at (r .1)) in
-      let y : Yields Pair (lead ∷ b ∷ []) (pair lead b) = a-pair lead b (pair lead b) l (all lead b) in
-      rw f at y
-  reads-yields all (a ∷ b ∷ c ∷ bs) e r = absurd r
+  pub reads-yields : (bs : List ℕ) (v : Event) → Reads e bs v → Yielded bs v
+  reads-yields [] v r = absurd r
+  reads-yields (b ∷ []) v r = byte-yields b v (ascii b) (isLead b) refl refl r
+  reads-yields (lead ∷ b ∷ []) v r =
+      pair-yields lead b (is-lead lead (ascii lead) (isLead lead) refl refl (r .0)) v (e .is-trail b) refl (r .1)
+  reads-yields (a ∷ b ∷ c ∷ bs) v r = absurd r
