@@ -6,7 +6,7 @@ use lib.Dec.{eqb}
 use lib.ListN.{length}
 use Rattle.laws.specs.Handler.{byte, Result, continue, code-point, error, finished, after}
 use Rattle.pairs.specs.Pairs.{decoded}
-use Rattle.pairs.specs.Standard.{CodePoints, null, one, two, Encoding, first, returned, handler}
+use Rattle.pairs.specs.Standard.{CodePoints, null, one, two, Layout, first, returned, handler}
 use Rattle.pairs.specs.declared.Decoded.{Decoded}
 use Rattle.pairs.specs.declared.Event.{Event}
 use Rattle.pairs.specs.declared.Event.the-variants.{Pending, Point, Two, Error}
@@ -28,8 +28,8 @@ abbrev pub seenAs : ℕ → Result CodePoints ℕ → Decoded
 seenAs read result = decoded (after result) (eventOf read result)
 
 -- a byte, alone or after a lead
-abbrev pub seenBy : Encoding → ℕ → ℕ → Decoded
-seenBy e lead b = seenAs (cond (eqb lead 0) 1 2) (handler e lead (byte b))
+abbrev pub seenBy : Layout → (ℕ → CodePoints) → ℕ → ℕ → Decoded
+seenBy e points lead b = seenAs (cond (eqb lead 0) 1 2) (handler e points lead (byte b))
 
 -- ---- its parts, as the code has them
 -- a byte where no lead is pending

@@ -9,7 +9,7 @@ use Rattle.laws.specs.Handler.{byte, Result, after}
 use Rattle.laws.specs.Tests.{either}
 use Rattle.octets.specs.Octets.{ascii}
 use Rattle.pairs.specs.Pairs.{isLead, isLeadOrNone, SmallHeld, smallHeldB}
-use Rattle.pairs.specs.Standard.{CodePoints, null, one, two, Encoding, first, returned, handler}
+use Rattle.pairs.specs.Standard.{CodePoints, null, one, two, Layout, first, returned, handler}
 use Rattle.pairs.specs.Ranges.{range-true}
 use Rattle.pairs.specs.declared.Held.{Held}
 
@@ -38,9 +38,9 @@ abbrev Holds : Result CodePoints ℕ → Type 0
 Holds r = isLeadOrNone (after r) ≡ true
 
 -- the handler leaves a lead that it can hold
-pub handler-lead : (e : Encoding) (lead b : ℕ) → Holds (handler e lead (byte b))
+pub handler-lead : (e : Layout) (points : ℕ → CodePoints) (lead b : ℕ) → Holds (handler e points lead (byte b))
 unfolding first after
-handler-lead e lead b =
+handler-lead e points lead b =
     either Holds (eqb lead 0) (λ z. either Holds (ascii b) (λ a. refl) (λ a. either Holds (isLead b) (λ l. rw (l, or-true)) (λ l. refl))) (λ z. rw (returned-lead b _))
 
 -- ---- a held score's test

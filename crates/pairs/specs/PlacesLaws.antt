@@ -10,12 +10,12 @@ use lib.Dec.{T, ltb, eqb, eqb→eq}
 use lib.ListN.{length, length-append, length-map}
 use borrow.Author.Tests.{ltb-true, ltb-false, eqb-true, eqb-false, lt-ltb, le-ltb, eq-eqb, ne-eqb}
 use Rattle.laws.specs.Lists.{count, count-append}
-use Rattle.laws.specs.Table.{within}
+use Rattle.laws.specs.Table.{every, nothing, within}
 use Rattle.laws.specs.Tests.{both, neither, either}
 use Rattle.pairs.specs.Pairs.{isLead}
 use Rattle.pairs.specs.PairsLaws.{lead-bounds}
 use Rattle.pairs.specs.Places.{numbers, those, bytes, each, pairsOf, before, placeOf}
-use Rattle.pairs.specs.Standard.{Encoding, pointer}
+use Rattle.pairs.specs.Standard.{Layout, pointer}
 
 -- ---- how many pairs of a product stand before one
 module _ (lead b : ℕ) where
@@ -160,11 +160,20 @@ module _ (isTrail : ℕ → Bool) (byte : (b : ℕ) → isTrail b ≡ true → b
       (s, omega arith)
 
 -- ---- pointers
--- an encoding whose row is its number of trail bytes, and whose offset leaves the number of those before a byte
-pub record Counted (e : Encoding) : Type 0 where
+-- a layout whose row is its number of trail bytes, and whose offset leaves the number of those before a byte
+pub record Counted (e : Layout) : Type 0 where
   pub byte : (b : ℕ) → e .is-trail b ≡ true → b < 256
   pub row-length : length (bytes (e .is-trail)) ≡ e .row
   pub trails-before : (b : ℕ) → e .is-trail b ≡ true → count (λ t. ltb t b) (bytes (e .is-trail)) ≡ b - e .offset b
+
+-- by one test at each byte
+unfoldable pub counts : Layout → ℕ → Bool
+counts e b = cond (e .is-trail b) (eqb (count (λ t. ltb t b) (bytes (e .is-trail))) (b - e .offset b)) true
+
+pub counted-by : (e : Layout) → ((b : ℕ) → e .is-trail b ≡ true → b < 256) → length (bytes (e .is-trail)) ≡ e .row → T (every (λ (b : ℕ) (u : Unit {0}). counts e b) 0 (nothing 256)) → Counted e
+unfolding counts
+counted-by e byte row t =
+    record { byte = byte; row-length = row; trails-before = λ b h. eqb→eq (count (λ t. ltb t b) (bytes (e .is-trail))) (b - e .offset b) (rw h at (within (counts e) 0 256 t b (omega arith) (omega (arith, byte b h)))) }
 
 -- the leads: 126, so many before each, and itself once, by a test at each
 leads-length : length (bytes isLead) ≡ 126
@@ -183,7 +192,7 @@ lead-once lead l =
     let h = lead-bounds lead l in
     eqb→eq (count (λ x. eqb x lead) (bytes isLead)) 1 (within (λ k. eqb (count (λ x. eqb x k) (bytes isLead)) 1) 0x81 126 tt lead (h .0) (omega arith))
 
-module _ (e : Encoding) (counted : Counted e) where
+module _ (e : Layout) (counted : Counted e) where
   pub pairs-number : length (pairsOf (e .is-trail)) ≡ 126 * e .row
   pairs-number = each-length (bytes isLead) (bytes (e .is-trail)) ∙ rw (leads-length, counted .row-length)
 

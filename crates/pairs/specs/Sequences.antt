@@ -16,7 +16,7 @@ use Rattle.pairs.specs.Pairs.{isLead, decoded}
 use Rattle.pairs.specs.PairsLaws.{lead-bounds, returned-lead}
 use Rattle.pairs.specs.Places.{placeOf}
 use Rattle.pairs.specs.PlacesLaws.{Counted, pointer-place}
-use Rattle.pairs.specs.Standard.{CodePoints, null, one, two, Encoding, first, returned, pointer, next}
+use Rattle.pairs.specs.Standard.{CodePoints, null, one, two, Layout, first, returned, pointer, next}
 use Rattle.pairs.specs.Events.{pointsAs, eventOf, seenBy, firstOf, malformedOf}
 use Rattle.pairs.specs.declared.Decoded.{Decoded}
 use Rattle.pairs.specs.declared.Event.{Event}
@@ -36,11 +36,12 @@ module _ (isTrail : ℕ → Bool) (points : ℕ → CodePoints) where
     no-trail : (lead b : ℕ) → isLead lead ≡ true → isTrail b ≡ false → Yields (lead ∷ b ∷ []) (errorAt b)
 
 -- the decoder takes in the bytes, all of them, and yields the event at the last one
-abbrev pub Reads : Encoding → List ℕ → Event → Type 0
-Reads e [] v = ⊥
-Reads e (b ∷ []) v = seenBy e 0 b ≡ decoded 0 v
-Reads e (lead ∷ b ∷ []) v = (seenBy e 0 lead ≡ decoded lead Pending) × (seenBy e lead b ≡ decoded 0 v)
-Reads e (a ∷ b ∷ c ∷ bs) v = ⊥
+module _ (e : Layout) (points : ℕ → CodePoints) where
+  abbrev pub Reads : List ℕ → Event → Type 0
+  Reads [] v = ⊥
+  Reads (b ∷ []) v = seenBy e points 0 b ≡ decoded 0 v
+  Reads (lead ∷ b ∷ []) v = (seenBy e points 0 lead ≡ decoded lead Pending) × (seenBy e points lead b ≡ decoded 0 v)
+  Reads (a ∷ b ∷ c ∷ bs) v = ⊥
 
 -- ---- a byte where no lead is pending
 lead-no-ascii : (b : ℕ) → isLead b ≡ true → ascii b ≡ false
@@ -62,26 +63,26 @@ first-lone b e f = rw (e, f)
 pub lead-not-zero : (lead : ℕ) → isLead lead ≡ true → eqb lead 0 ≡ false
 lead-not-zero lead e = let h = lead-bounds lead e in ne-eqb lead 0 (λ z. omega arith)
 
-pub pair-seen : (e : Encoding) (lead b : ℕ) → isLead lead ≡ true → seenBy e lead b ≡ decoded 0 (eventOf 2 (next e lead b))
-pair-seen e lead b l = rw (lead-not-zero lead l, returned-lead b _)
+pub pair-seen : (e : Layout) (points : ℕ → CodePoints) (lead b : ℕ) → isLead lead ≡ true → seenBy e points lead b ≡ decoded 0 (eventOf 2 (next e points lead b))
+pair-seen e points lead b l = rw (lead-not-zero lead l, returned-lead b _)
 
 pub malformed-is : (b : ℕ) → malformedOf b ≡ errorAt b
 unfolding returned eventOf
 malformed-is b = through (λ (xs : List ℕ). Error (2 - length xs)) (ascii b) (b ∷ []) []
 
-module _ (e : Encoding) (counted : Counted e) where
+module _ (e : Layout) (points : ℕ → CodePoints) (counted : Counted e) where
   abbrev Yielded : List ℕ → Event → Type 0
-  Yielded bs v = Yields (e .is-trail) (e .points) bs v
+  Yielded bs v = Yields (e .is-trail) points bs v
 
   module _ (lead b : ℕ) (l : isLead lead ≡ true) where
     -- what stands at the pair's place is seen
-    seen-at : (ps : CodePoints) → e .is-trail b ≡ true → e .points (placeOf (e .is-trail) lead b) ≡ ps → seenBy e lead b ≡ decoded 0 (eventOf 2 (returned b ps))
-    seen-at ps t h = pair-seen e lead b l ∙ rw (t, pointer-place e counted lead b l t, h)
+    seen-at : (ps : CodePoints) → e .is-trail b ≡ true → points (placeOf (e .is-trail) lead b) ≡ ps → seenBy e points lead b ≡ decoded 0 (eventOf 2 (returned b ps))
+    seen-at ps t h = pair-seen e points lead b l ∙ rw (t, pointer-place e counted lead b l t, h)
 
-    seen-no-trail : e .is-trail b ≡ false → seenBy e lead b ≡ decoded 0 (errorAt b)
-    seen-no-trail t = pair-seen e lead b l ∙ rw (t, malformed-is b)
+    seen-no-trail : e .is-trail b ≡ false → seenBy e points lead b ≡ decoded 0 (errorAt b)
+    seen-no-trail t = pair-seen e points lead b l ∙ rw (t, malformed-is b)
 
-  pub yields-reads : (bs : List ℕ) (v : Event) → Yielded bs v → Reads e bs v
+  pub yields-reads : (bs : List ℕ) (v : Event) → Yielded bs v → Reads e points bs v
   unfolding returned eventOf pointsAs
   yields-reads bs v (ascii-byte b p) = first-ascii b p
   yields-reads bs v (lone-byte b p q) = first-lone b p q
@@ -92,15 +93,15 @@ module _ (e : Encoding) (counted : Counted e) where
 
   -- ---- and back
   module _ (lead b : ℕ) (l : isLead lead ≡ true) where
-    point-yields : (ps : CodePoints) → e .is-trail b ≡ true → e .points (placeOf (e .is-trail) lead b) ≡ ps → Yielded (lead ∷ b ∷ []) (eventOf 2 (returned b ps))
+    point-yields : (ps : CodePoints) → e .is-trail b ≡ true → points (placeOf (e .is-trail) lead b) ≡ ps → Yielded (lead ∷ b ∷ []) (eventOf 2 (returned b ps))
     unfolding returned eventOf pointsAs
     point-yields null t h = rw (malformed-is b) (no-point lead b l t h)
     point-yields (one p) t h = one-point lead b p l t h
     point-yields (two p q) t h = two-points lead b p q l t h
 
-    pair-yields : (v : Event) (t : Bool) → e .is-trail b ≡ t → seenBy e lead b ≡ decoded 0 v → Yielded (lead ∷ b ∷ []) v
+    pair-yields : (v : Event) (t : Bool) → e .is-trail b ≡ t → seenBy e points lead b ≡ decoded 0 v → Yielded (lead ∷ b ∷ []) v
     pair-yields v true t r =
-        let ps = e .points (placeOf (e .is-trail) lead b) in
+        let ps = points (placeOf (e .is-trail) lead b) in
         let f : v ≡ eventOf 2 (returned b ps) = ap (λ (d : Decoded). d .event) (sym r ∙ seen-at lead b l ps t refl) in
         rw f (point-yields ps t refl)
     pair-yields v false t r = let f : v ≡ errorAt b = ap (λ (d : Decoded). d .event) (sym r ∙ seen-no-trail lead b l t) in rw f (no-trail lead b l t)
@@ -117,7 +118,7 @@ module _ (e : Encoding) (counted : Counted e) where
   is-lead lead false true p q r = q
   is-lead lead false false p q r = let f : Pending ≡ Error 1 = ap (λ (d : Decoded). d .event) (sym r ∙ first-lone lead p q) in cc
 
-  pub reads-yields : (bs : List ℕ) (v : Event) → Reads e bs v → Yielded bs v
+  pub reads-yields : (bs : List ℕ) (v : Event) → Reads e points bs v → Yielded bs v
   reads-yields [] v r = absurd r
   reads-yields (b ∷ []) v r = byte-yields b v (ascii b) (isLead b) refl refl r
   reads-yields (lead ∷ b ∷ []) v r =

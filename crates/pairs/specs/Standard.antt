@@ -1,9 +1,10 @@
 -- The Encoding Standard's Big5 and EUC-KR decoders, in its variables and its order: lead, pointer, offset, index. The two
--- differ in what an Encoding says. Lead, the one variable, is 0 or the byte that began a pair. Assumes nothing.
+-- differ in how they lay out their pairs and in what a pointer stands for. Lead, the one variable, is 0 or the byte that began a pair. Assumes nothing.
 use mathlib.Core.Bool.{Bool, cond}
-use mathlib.Core.List.{[], _∷_}
+use mathlib.Core.List.{List, [], _∷_}
 use Prim.Native.Nat.{ℕ, _+_, _-_, _*_}
 use lib.Dec.{eqb}
+use lib.ListN.{getD}
 use Rattle.laws.specs.Handler.{Item, end-of-queue, byte, Result, continue, code-point, error, finished}
 use Rattle.octets.specs.Octets.{ascii}
 use Rattle.pairs.specs.Pairs.{isLead}
@@ -14,15 +15,18 @@ pub data CodePoints : Type 0 where
   one : ℕ → CodePoints
   two : ℕ → ℕ → CodePoints
 
--- its trail bytes, the offset of each, how many pairs a lead has, and what a pointer stands for
-pub record Encoding : Type 0 where
+-- how an encoding lays out its pairs: its trail bytes, the offset of each, and how many pairs a lead has
+pub record Layout : Type 0 where
   pub is-trail : ℕ → Bool
   pub offset : ℕ → ℕ
   pub row : ℕ
-  pub points : ℕ → CodePoints
 
-abbrev pub pointer : Encoding → ℕ → ℕ → ℕ
+abbrev pub pointer : Layout → ℕ → ℕ → ℕ
 pointer e lead b = (lead - 0x81) * e .row + (b - e .offset b)
+
+-- the index's code point at a pointer, or null
+unfoldable pub indexed : (ℕ → Bool) → List ℕ → ℕ → CodePoints
+indexed isMapped index at = cond (isMapped (getD index at 0)) (one (getD index at 0)) null
 
 -- end-of-queue: with lead not 0 it becomes 0, error; else finished
 abbrev pub at-end : ℕ → Result CodePoints ℕ
@@ -38,10 +42,12 @@ returned b null = error (cond (ascii b) (b ∷ []) []) 0
 returned b (one p) = code-point (one p) 0
 returned b (two p q) = code-point (two p q) 0
 
--- a trail byte makes a pointer with the lead
-abbrev pub next : Encoding → ℕ → ℕ → Result CodePoints ℕ
-next e lead b = returned b (cond (e .is-trail b) (e .points (pointer e lead b)) null)
+-- points: what the encoding's pointers stand for
+module _ (e : Layout) (points : ℕ → CodePoints) where
+  -- a trail byte makes a pointer with the lead
+  abbrev pub next : ℕ → ℕ → Result CodePoints ℕ
+  next lead b = returned b (cond (e .is-trail b) (points (pointer e lead b)) null)
 
-abbrev pub handler : Encoding → ℕ → Item → Result CodePoints ℕ
-handler e lead end-of-queue = at-end lead
-handler e lead (byte b) = cond (eqb lead 0) (first b) (next e lead b)
+  abbrev pub handler : ℕ → Item → Result CodePoints ℕ
+  handler lead end-of-queue = at-end lead
+  handler lead (byte b) = cond (eqb lead 0) (first b) (next lead b)
