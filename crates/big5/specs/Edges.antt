@@ -15,7 +15,7 @@ use Rattle.pairs.specs.Pairs.{isLead, decoded}
 use Rattle.pairs.specs.Standard.{first, returned, indexed}
 use Rattle.pairs.specs.Events.{pointsAs, eventOf}
 use Rattle.pairs.specs.Ranges.{inside, below, above, range-true}
-use Rattle.pairs.specs.Sequences.{pair-seen}
+use Rattle.pairs.specs.SequencesLaws.{pair-seen}
 use Rattle.pairs.specs.declared.Event.the-variants.{Point}
 use Rattle.pairs.specs.declared.Held.{Held}
 use Rattle.pairs.specs.declared.Held.the-variants.{Nothing}

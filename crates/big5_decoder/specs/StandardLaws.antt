@@ -16,7 +16,8 @@ use Rattle.pairs.specs.Events.{pointsAs, eventOf}
 use Rattle.pairs.specs.Places.{numbers, those, placeOf}
 use Rattle.pairs.specs.PlacesLaws as places
 use Rattle.pairs.specs.PlacesLaws.{Counted, counts, counted-by}
-use Rattle.pairs.specs.Sequences.{Yields, Reads, yields-reads, reads-yields}
+use Rattle.pairs.specs.Sequences.{Yields, Reads}
+use Rattle.pairs.specs.SequencesLaws.{yields-reads, reads-yields}
 use Rattle.pairs.specs.declared.Event.{Event}
 use Rattle.pairs.specs.declared.Event.the-variants.{Point}
 use Rattle.big5_decoder.specs.Standard.{isTrail, layout, pointerOf, isMapped, pointsOf, pairOf}

@@ -5,7 +5,7 @@ use mathlib.Core.List.{List, [], _∷_}
 use Prim.Native.Nat.{ℕ, zero, suc, _+_}
 use native.Mathlib.Omega.{arith}
 use lib.Dec.{ltb}
-use borrow.Author.Tests.{ne-eqb, le-ltb}
+use borrow.Author.Tests.{le-ltb}
 use lib.IntN.{ℤ, pos, _+ℤ_, +ℤ-idl, +ℤ-idr, +ℤ-assoc, +ℤ-comm}
 use lib.ListN.{getD}
 use Rattle.laws.specs.Run.{Outcome, live, plus, plus-plus, feed, run, run-plus}
@@ -17,7 +17,7 @@ use Rattle.pairs.specs.Pairs.{isLead, decoded}
 use Rattle.pairs.specs.Standard.{first}
 use Rattle.pairs.specs.Events.{eventOf}
 use Rattle.pairs.specs.Ranges.{inside, below, above, range-true}
-use Rattle.pairs.specs.Sequences.{first-lead, pair-seen}
+use Rattle.pairs.specs.SequencesLaws.{first-lead, pair-seen}
 use Rattle.pairs.specs.declared.Event.the-variants.{Pending, Point}
 use Rattle.pairs.specs.declared.Held.{Held}
 use Rattle.pairs.specs.declared.Held.the-variants.{Nothing, Score}

@@ -5,7 +5,7 @@ use mathlib.Core.List.{List, [], _∷_, _++_}
 use mathlib.Core.Logic.{_⊎_, inl, inr}
 use Prim.Native.Nat.{ℕ, _<_, _≤_}
 use native.Mathlib.Omega.{arith}
-use lib.Dec.{eqb, leb, ltb}
+use lib.Dec.{eqb, ltb}
 use lib.IntN.{ℤ, pos}
 use lib.ListN.{length}
 use borrow.Author.Tests.{eq-eqb, ne-eqb, eqb-true, le-leb, lt-leb, leb-true, leb-false, ltb-true, ltb-false, not-true}
@@ -16,7 +16,7 @@ use Rattle.laws.specs.Run.{Outcome, live, run, run-append}
 use Rattle.laws.specs.Still.{Ends, run-ends, run-stays}
 use Rattle.laws.specs.Tests.{both, neither, either}
 use Rattle.octets.specs.Octets.{between, nonAscii}
-use Rattle.octets.specs.BetweenLaws.{inside, below, above, between-low, between-high}
+use Rattle.octets.specs.BetweenLaws.{inside, above, between-low, between-high}
 use Rattle.iso2022jp.specs.declared.DecoderState.{DecoderState}
 use Rattle.iso2022jp.specs.declared.DecoderState.the-variants.{Ascii, Roman, Katakana, LeadByte, TrailByte, EscapeStart, Escape}
 use Rattle.iso2022jp.specs.declared.OutputState.{OutputState}

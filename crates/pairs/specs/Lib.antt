@@ -5,5 +5,6 @@ pub mod PairsLaws
 pub mod Places
 pub mod PlacesLaws
 pub mod Sequences
+pub mod SequencesLaws
 pub mod Ranges
 pub mod Sums

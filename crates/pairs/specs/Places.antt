@@ -12,7 +12,7 @@ unfoldable pub numbers : ℕ → ℕ → List ℕ
 numbers i zero = []
 numbers i (suc n) = i ∷ numbers (suc i) n
 
--- the bytes that pass a test
+-- the elements that pass a test
 unfoldable pub those : (ℕ → Bool) → List ℕ → List ℕ
 those test [] = []
 those test (x ∷ xs) = cond (test x) (x ∷ those test xs) (those test xs)
@@ -25,9 +25,11 @@ unfoldable pub each : List ℕ → List ℕ → List (ℕ × ℕ)
 each [] ys = []
 each (x ∷ xs) ys = map (λ (y : ℕ). (x, y)) ys ++ each xs ys
 
+-- every lead with every trail byte
 abbrev pub pairsOf : (ℕ → Bool) → List (ℕ × ℕ)
 pairsOf isTrail = each (bytes isLead) (bytes isTrail)
 
+-- a pair that stands before that of lead and b: by lead, and then by trail
 unfoldable pub before : ℕ → ℕ → ℕ × ℕ → Bool
 before lead b p = ltb (p .0) lead || (eqb (p .0) lead && ltb (p .1) b)
 

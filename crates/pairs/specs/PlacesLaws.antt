@@ -1,17 +1,17 @@
 -- A pair's pointer is its place. So it lies below the number of pairs, and no two pairs share one. Assumes nothing.
 use mathlib.Core.Path.{_≡_, refl, sym, ap, _∙_}
-use mathlib.Core.Bool.{Bool, true, false, cond, not, _&&_, _||_}
-use mathlib.Core.List.{List, [], _∷_, _++_, map, List·Memᴰ, List·Memᴰ·head, List·Memᴰ·tail, Memᴰ·cast, Memᴰ·append-left, Memᴰ·append-right}
+use mathlib.Core.Bool.{Bool, true, false, cond, _&&_, _||_}
+use mathlib.Core.List.{List, [], _∷_, map, List·Memᴰ, List·Memᴰ·head, List·Memᴰ·tail, Memᴰ·cast, Memᴰ·append-left, Memᴰ·append-right}
 use mathlib.Core.Logic.{_⊎_, inl, inr, ⊎-elim}
 use Prim.Native.Nat.{ℕ, zero, suc, _+_, _-_, _*_, _<_, _≤_}
 use native.Mathlib.Nat.{add-zero, suc-mul}
 use native.Mathlib.Omega.{arith}
 use lib.Dec.{T, ltb, eqb, eqb→eq}
 use lib.ListN.{length, length-append, length-map}
-use borrow.Author.Tests.{ltb-true, ltb-false, eqb-true, eqb-false, lt-ltb, le-ltb, eq-eqb, ne-eqb}
+use borrow.Author.Tests.{ltb-true, eqb-true, lt-ltb, le-ltb, eq-eqb}
 use Rattle.laws.specs.Lists.{count, count-append}
 use Rattle.laws.specs.Table.{every, nothing, within}
-use Rattle.laws.specs.Tests.{both, neither, either}
+use Rattle.laws.specs.Tests.{both, either}
 use Rattle.pairs.specs.Pairs.{isLead}
 use Rattle.pairs.specs.PairsLaws.{lead-bounds}
 use Rattle.pairs.specs.Places.{numbers, those, bytes, each, pairsOf, before, placeOf}
@@ -42,12 +42,12 @@ module _ (lead b : ℕ) where
   split-row x xs ys false false e f h =
       rw (e, f, count-append, row-count x false false e f ys) (omega (arith, h))
 
-  pub split : (xs ys : List ℕ) → Split xs ys
+  split : (xs ys : List ℕ) → Split xs ys
   unfolding count each
   split [] ys = omega arith
   split (x ∷ xs) ys = split-row x xs ys (ltb x lead) (eqb x lead) refl refl (split xs ys)
 
--- ---- what stands before more, and where a pair stands that is not counted, is counted less
+-- ---- a test that more elements pass counts more, where one of them is there
 module _ {A : Type 0} (p q : A → Bool) (more : (x : A) → p x ≡ true → q x ≡ true) where
   one-less : (s t : Bool) → (s ≡ true → t ≡ true) → cond s 1 0 ≤ cond t 1 0
   one-less true true h = omega arith
