@@ -20,7 +20,7 @@ use Rattle.pairs.specs.declared.Held.the-variants.{Nothing, Score}
 use Rattle.laws.specs.Limit.{limit}
 use Rattle.weights.specs.Weights.{term, perByte}
 use Rattle.lengths.specs.Lengths.{weightCount, big5Count}
-use Rattle.big5_decoder.specs.Standard.{pairOf, decodeOf}
+use Rattle.big5_decoder.specs.Standard.{layout, pointsOf, decodeOf}
 use Rattle.big5.specs.Scoring.{scaleOf, isHanzi, isDistinct, besideOf, besideHanzi, scored, holdsOf, hanziWeight, letterOf, hanziOf, otherOf, unitOf, pointOf, unmappedOf, extensionOf, isPair, extends, after, strayOf, errorOf, onEvent, Lent, lent, stepOf}
 use Rattle.big5.specs.Big5.{Sound, soundB, Small, ranAs, Weighed, readyB, Ready, ranOf}
 use Rattle.big5.specs.Ways.{beside-small, hanzi-small}
@@ -156,7 +156,7 @@ pub step-within : (t : Lent) → Small (t .scale) → (n : ℕ) (m : Big5) (b : 
 unfolding stepOf decodeOf
 step-within t small n m b s =
     let d = decodeOf (t .index) (m .lead) b in
-    event-within (t .scale) small m (s .held-small) (n + 1) (d .lead) b (handler-lead (pairOf (t .index)) (m .lead) b) (d .event)
+    event-within (t .scale) small m (s .held-small) (n + 1) (d .lead) b (handler-lead layout (pointsOf (t .index)) (m .lead) b) (d .event)
 
 -- the same of a step that was live
 pub turn-within : (t : Lent) → Small (t .scale) → (n : ℕ) (m : Big5) (b : ℕ) (next : Big5) (g : ℤ) → Sound n m → stepOf t m b ≡ live next g → Sound (n + 1) next × (natAbs g ≤ perByte)

@@ -4,4 +4,5 @@ pub mod Ways
 pub mod Big5Laws
 pub mod HeldLaws
 pub mod HeadLaws
+pub mod CloseLaws
 pub mod Edges

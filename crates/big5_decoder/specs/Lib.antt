@@ -1,3 +1,4 @@
 pub mod Standard
+pub mod SpecialsLaws
 pub mod Ways
 pub mod StandardLaws

@@ -1,17 +1,19 @@
--- The Encoding Standard's Big5 decoder, in its own terms: lead, pointer, offset, index. Assumes nothing.
+-- The Encoding Standard's Big5 decoder: what it has of its own in the frame of the pair decoders. Assumes nothing.
 use mathlib.Core.Bool.{Bool, cond, _&&_, _||_}
 use mathlib.Core.List.{List}
-use Prim.Native.Nat.{ℕ, _+_, _-_, _*_}
+use Prim.Native.Nat.{ℕ}
 use lib.Dec.{ltb, eqb}
-use lib.ListN.{length, getD}
+use lib.ListN.{length}
 use Rattle.octets.specs.Octets.{between}
 use Rattle.lengths.specs.Lengths.{big5Count}
-use Rattle.pairs.specs.Pairs.{isLeadOrNone, malformedOf, handlerOf}
+use Rattle.entries.specs.Entries as entries
+use Rattle.pairs.specs.Pairs.{isLeadOrNone}
+use Rattle.pairs.specs.Standard.{CodePoints, two, Layout, pointer, indexed, returned, next}
+use Rattle.pairs.specs.Events.{eventOf, seenBy}
 use Rattle.pairs.specs.declared.Decoded.{Decoded}
 use Rattle.pairs.specs.declared.Event.{Event}
 use Rattle.pairs.specs.declared.Reply.{Reply}
 use Rattle.pairs.specs.declared.Reply.the-variants.{Byte, Unfit}
-use Rattle.pairs.specs.declared.Event.the-variants.{Point, Two}
 
 abbrev pub isTrail : ℕ → Bool
 isTrail b = between 0x40 0x7E b || between 0xA1 0xFE b
@@ -19,33 +21,36 @@ isTrail b = between 0x40 0x7E b || between 0xA1 0xFE b
 abbrev pub offsetOf : ℕ → ℕ
 offsetOf b = cond (ltb b 0x7F) 0x40 0x62
 
-abbrev pub pointerOf : ℕ → ℕ → ℕ
-pointerOf lead b = (lead - 0x81) * 157 + (b - offsetOf b)
+abbrev pub layout : Layout
+layout = record { is-trail = isTrail; offset = offsetOf; row = 157 }
 
--- any other entry is unmapped
+abbrev pub pointerOf : ℕ → ℕ → ℕ
+pointerOf lead b = pointer layout lead b
+
+-- plane two beside what the other indexes have
 abbrev pub isMapped : ℕ → Bool
-isMapped entry = between 0x80 0xD7FF entry || (between 0xE000 0xFFFF entry || between 0x20000 0x2FFFF entry)
+isMapped entry = entries.isMapped entry || between 0x20000 0x2FFFF entry
 
 module _ (index : List ℕ) where
-  -- the index's code point at the pointer, if any; b is the byte that the pointer was made with
-  unfoldable pub entryOf : ℕ → ℕ → Event
-  entryOf at b = cond (isMapped (getD index at 0)) (Point (getD index at 0)) (malformedOf b)
-
-  -- four pointers give two code points before the index is asked
-  unfoldable pub yieldOf : ℕ → ℕ → Event
-  yieldOf at b =
-      cond (eqb at 1133) (Two 0xCA 0x304)
-      (cond (eqb at 1135) (Two 0xCA 0x30C)
-      (cond (eqb at 1164) (Two 0xEA 0x304)
-      (cond (eqb at 1166) (Two 0xEA 0x30C) (entryOf at b))))
+  -- four pointers stand for two code points before the index is asked
+  unfoldable pub pointsOf : ℕ → CodePoints
+  pointsOf at =
+      cond (eqb at 1133) (two 0xCA 0x304)
+      (cond (eqb at 1135) (two 0xCA 0x30C)
+      (cond (eqb at 1164) (two 0xEA 0x304)
+      (cond (eqb at 1166) (two 0xEA 0x30C) (indexed isMapped index at))))
 
   -- a lead and the byte after it
   unfoldable pub pairOf : ℕ → ℕ → Event
-  pairOf lead b = cond (isTrail b) (yieldOf (pointerOf lead b) b) (malformedOf b)
+  pairOf lead b = eventOf 2 (next layout pointsOf lead b)
 
-  -- the decoder's handler: lead and byte give the next lead and what is yielded
+  -- the same where the index is asked
+  unfoldable pub entryOf : ℕ → ℕ → Event
+  entryOf at b = eventOf 2 (returned b (indexed isMapped index at))
+
+  -- a byte after a lead, or after none, which is 0
   unfoldable pub decodeOf : ℕ → ℕ → Decoded
-  decodeOf lead b = handlerOf pairOf lead b
+  decodeOf lead b = seenBy layout pointsOf lead b
 
   -- the decoder alone answers every lead, byte and index: only a lead that it can hold, or 0, and an index of the exact length are fit
   unfoldable pub replyOf : ℕ → ℕ → Reply

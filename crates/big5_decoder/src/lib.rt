@@ -32,19 +32,11 @@ fn pointer(lead: u8, b: u8) -> usize
     row + (b - 0x62) as usize
 }
 
+// Plane two beside what the other indexes have.
 fn is_mapped(entry: u32) -> bool
     ensures { λ r. ⌜ r ≡ isMapped entry ⌝ }
 {
-    if entry < 0x80 {
-        return false;
-    }
-    if entry < 0xD800 {
-        return true;
-    }
-    if entry < 0xE000 {
-        return false;
-    }
-    if entry < 0x10000 {
+    if entries::is_mapped(entry) {
         return true;
     }
     if entry < 0x20000 {
@@ -57,7 +49,7 @@ fn is_mapped(entry: u32) -> bool
 fn looked_up(at: usize, b: u8, index: &[u32]) -> Event
     ensures { λ r. ⌜ r ≡ entryOf (now (index .entry)) at b ⌝ }
 {
-    let entry = pairs::entry(index, at);
+    let entry = entries::entry(index, at);
     if is_mapped(entry) {
         return Event::Point(entry);
     }

@@ -5,21 +5,24 @@ use mathlib.Core.List.{List, [], _∷_}
 use Prim.Native.Nat.{ℕ, zero, suc, _+_}
 use native.Mathlib.Omega.{arith}
 use lib.Dec.{ltb}
-use borrow.Author.Tests.{ne-eqb, le-ltb}
+use borrow.Author.Tests.{le-ltb}
 use lib.IntN.{ℤ, pos, _+ℤ_, +ℤ-idl, +ℤ-idr, +ℤ-assoc, +ℤ-comm}
 use lib.ListN.{getD}
 use Rattle.laws.specs.Run.{Outcome, live, plus, plus-plus, feed, run, run-plus}
 use Rattle.laws.specs.Still.{Lives}
 use Rattle.octets.specs.Octets.{between}
-use Rattle.pairs.specs.Pairs.{isLead, decoded, firstOf}
-use Rattle.pairs.specs.PairsLaws.{lead-bounds}
+use Rattle.laws.specs.Handler.{after as lead-after}
+use Rattle.entries.specs.Entries.{isMapped}
+use Rattle.pairs.specs.Pairs.{isLead, decoded}
+use Rattle.pairs.specs.Standard.{first}
+use Rattle.pairs.specs.Events.{eventOf}
 use Rattle.pairs.specs.Ranges.{inside, below, above, range-true}
-use Rattle.pairs.specs.Sequences.{first-lead}
+use Rattle.pairs.specs.SequencesLaws.{first-lead, pair-seen}
 use Rattle.pairs.specs.declared.Event.the-variants.{Pending, Point}
 use Rattle.pairs.specs.declared.Held.{Held}
 use Rattle.pairs.specs.declared.Held.the-variants.{Nothing, Score}
-use Rattle.euckr_decoder.specs.Standard.{isTrail, pointerOf, isMapped, decodeOf}
-use Rattle.euckr_decoder.specs.StandardLaws.{is-mapped}
+use Rattle.euckr_decoder.specs.Standard.{isTrail, layout, pointerOf, pointsOf, pairOf, decodeOf}
+use Rattle.euckr_decoder.specs.StandardLaws.{mapped-pair}
 use Rattle.euckr.specs.Scoring.{extraOf, isEuc, isHangul, hangulAfter, longOf, scored, holdsOf, aroundOf, innerOf, outerOf, hangulOf, otherOf, unitOf, extensionOf, after, strayOf, errorOf, freshOf, Lent, lent, stepOf}
 use Rattle.euckr.specs.Ways.{step-on}
 use Rattle.euckr.specs.declared.EucKr.{EucKr}
@@ -127,10 +130,8 @@ waiting m lead = record { lead = lead; «prev_byte» = lead; «prev_was_euc_rang
 
 -- what a mapped pair decodes to
 pair-point : (t : Lent) (lead b : ℕ) → isLead lead ≡ true → isTrail b ≡ true → isMapped (getD (t .index) (pointerOf lead b) 0) ≡ true → decoded 0 (Point (getD (t .index) (pointerOf lead b) 0)) ≡ decodeOf (t .index) lead b
-unfolding decodeOf
-pair-point t lead b l r e =
-    let h = lead-bounds lead l in
-    rw (ne-eqb lead 0 (λ z. omega arith), is-mapped (t .index) lead b r e)
+unfolding decodeOf pairOf
+pair-point t lead b l r e = sym (pair-seen layout (pointsOf (t .index)) lead b l ∙ ap (decoded 0) (mapped-pair (t .index) lead b r e))
 
 module _ (t : Lent) where
   lead-decoded : (lead x : ℕ) → x ≡ 0 → isLead lead ≡ true → decoded lead Pending ≡ decodeOf (t .index) x lead
@@ -234,7 +235,7 @@ module _ (t : Lent) (bs : List ℕ) where
 
 -- a pair that ends in 81 and then FF alone: the extension weight twice, for the rule looks at the byte before, not at a lead
 pub after-81-ff : (t : Lent) (euc : Bool) (prev : LatinKorean) (word : ℕ) (held : Held) → stepOf t (record { lead = 0; «prev_byte» = 0x81; «prev_was_euc_range» = euc; prev = prev; «current_word_len» = word; held = held }) 0xFF ≡ live (record { lead = 0; «prev_byte» = 0xFF; «prev_was_euc_range» = false; prev = Other; «current_word_len» = 0; held = Nothing }) (t .scale .extension +ℤ t .scale .extension)
-unfolding stepOf decodeOf firstOf errorOf strayOf extensionOf
+unfolding stepOf decodeOf first lead-after eventOf errorOf strayOf extensionOf
 after-81-ff t euc prev word held = refl
 
 -- ---- the house plan's lines

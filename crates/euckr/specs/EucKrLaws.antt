@@ -20,7 +20,7 @@ use Rattle.pairs.specs.declared.Held.the-variants.{Nothing, Score}
 use Rattle.laws.specs.Limit.{limit, room}
 use Rattle.weights.specs.Weights.{term, perByte}
 use Rattle.lengths.specs.Lengths.{weightCount, eucKrCount, extraCount}
-use Rattle.euckr_decoder.specs.Standard.{pairOf, decodeOf}
+use Rattle.euckr_decoder.specs.Standard.{layout, pointsOf, decodeOf}
 use Rattle.euckr.specs.Scoring.{scaleOf, extraOf, isEuc, isHangul, isHanja, scored, holdsOf, letterOf, aroundOf, innerOf, outerOf, hangulOf, hanjaOf, otherOf, unitOf, isUserPair, isMacSymbol, isLone, extends, extensionOf, after, strayOf, errorOf, onEvent, Lent, lent, stepOf}
 use Rattle.euckr.specs.EucKr.{Sound, soundB, Small, Slight, ranAs, Weighed, readyB, Ready, ranOf}
 use Rattle.euckr.specs.Ways.{gain-pick, letter-small, hangul-small, hanja-small, other-small}
@@ -186,7 +186,7 @@ pub step-sound : (t : Lent) → Small (t .scale) → (n : ℕ) (m : EucKr) (b : 
 unfolding stepOf decodeOf
 step-sound t small n m b s =
     let d = decodeOf (t .index) (m .lead) b in
-    event-sound (t .scale) small n m (s .word-most) (s .held-small) (d .lead) b (handler-lead (pairOf (t .index)) (m .lead) b) (t .extras) (d .event)
+    event-sound (t .scale) small n m (s .word-most) (s .held-small) (d .lead) b (handler-lead layout (pointsOf (t .index)) (m .lead) b) (t .extras) (d .event)
 
 pub step-slight : (t : Lent) → Small (t .scale) → ((u : ℕ) → natAbs (extraOf (t .extras) u) ≤ term) → (n : ℕ) (m : EucKr) (b : ℕ) → Sound n m → Slight (stepOf t m b)
 unfolding stepOf

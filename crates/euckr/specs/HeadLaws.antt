@@ -11,7 +11,7 @@ use Rattle.laws.specs.Run.{live}
 use Rattle.octets.specs.Octets.{ascii, letter}
 use Rattle.pairs.specs.Pairs.{decoded}
 use Rattle.pairs.specs.Ranges.{below}
-use Rattle.pairs.specs.Sequences.{first-ascii}
+use Rattle.pairs.specs.SequencesLaws.{first-ascii}
 use Rattle.pairs.specs.declared.Event.the-variants.{Point}
 use Rattle.pairs.specs.declared.Held.the-variants.{Nothing}
 use Rattle.euckr_decoder.specs.Standard.{decodeOf}

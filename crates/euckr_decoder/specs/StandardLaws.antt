@@ -1,50 +1,48 @@
--- Which pairs of bytes EUC-KR takes for what, both ways. Assumes nothing.
-use mathlib.Core.Path.{_≡_, refl}
-use mathlib.Core.Bool.{Bool, true, false}
+-- A pointer is the pair's place in the index, and which byte sequences EUC-KR takes for what, both ways. Assumes nothing.
+use mathlib.Core.Path.{_≡_, refl, sym}
+use mathlib.Core.Bool.{true}
 use mathlib.Core.List.{List}
-use Prim.Native.Nat.{ℕ}
+use Prim.Native.Nat.{ℕ, _<_}
+use native.Mathlib.Omega.{arith}
 use lib.ListN.{getD}
-use Rattle.pairs.specs.Pairs.{malformedOf}
-use Rattle.pairs.specs.Sequences.{Yields, Reads, yields-reads, reads-yields}
+use Rattle.laws.specs.Lists.{count}
+use Rattle.lengths.specs.Lengths.{eucKrCount}
+use Rattle.entries.specs.Entries.{isMapped}
+use Rattle.pairs.specs.Pairs.{isLead}
+use Rattle.pairs.specs.Ranges.{range-true}
+use Rattle.pairs.specs.Places.{numbers, those, placeOf}
+use Rattle.pairs.specs.PlacesLaws as places
+use Rattle.pairs.specs.PlacesLaws.{Counted, counts, counted-by}
+use Rattle.pairs.specs.Sequences.{Yields, Reads}
+use Rattle.pairs.specs.SequencesLaws.{yields-reads, reads-yields}
 use Rattle.pairs.specs.declared.Event.{Event}
 use Rattle.pairs.specs.declared.Event.the-variants.{Point}
-use Rattle.euckr_decoder.specs.Standard.{isTrail, pointerOf, isMapped, entryOf, pairOf}
+use Rattle.euckr_decoder.specs.Standard.{isTrail, layout, pointerOf, pointsOf, pairOf}
+use Rattle.euckr_decoder.specs.Ways.{pair-mapped}
 
--- a mapped pair is its code point; any other pair is an error, of length 1 if b is ASCII, else 2
-pub data Pair (index : List ℕ) : ℕ → ℕ → Event → Type 0 where
-  mapped : (lead b : ℕ) → isTrail b ≡ true → isMapped (getD index (pointerOf lead b) 0) ≡ true → Pair index lead b (Point (getD index (pointerOf lead b) 0))
-  unmapped : (lead b : ℕ) → isTrail b ≡ true → isMapped (getD index (pointerOf lead b) 0) ≡ false → Pair index lead b (malformedOf b)
-  no-trail : (lead b : ℕ) → isTrail b ≡ false → Pair index lead b (malformedOf b)
+-- ---- pointers: the place by lead and then by trail, in the index, and no two the same
+pub counted : Counted layout
+unfolding count those numbers counts
+counted = counted-by layout (λ b t. omega (arith, range-true 0x41 0xFE b t)) refl tt
 
+module _ (lead b : ℕ) (l : isLead lead ≡ true) (t : isTrail b ≡ true) where
+  pub pointer-place : pointerOf lead b ≡ placeOf isTrail lead b
+  pointer-place = places.pointer-place layout counted lead b l t
+
+  pub pointer-below : pointerOf lead b < eucKrCount
+  pointer-below = places.pointer-below layout counted lead b l t
+
+pub pointer-once : (lead b lead′ b′ : ℕ) → isLead lead ≡ true → isTrail b ≡ true → isLead lead′ ≡ true → isTrail b′ ≡ true → pointerOf lead b ≡ pointerOf lead′ b′ → (lead ≡ lead′) × (b ≡ b′)
+pointer-once = places.pointer-once layout counted
+
+-- ---- the decoder reads the sequences of bytes that Yields says, and no others
 module _ (index : List ℕ) where
-  pub is-mapped : (lead b : ℕ) → isTrail b ≡ true → isMapped (getD index (pointerOf lead b) 0) ≡ true → pairOf index lead b ≡ Point (getD index (pointerOf lead b) 0)
-  unfolding pairOf entryOf
-  is-mapped lead b t m = rw (t, m)
+  pub decoder-reads : (bs : List ℕ) (v : Event) → Yields isTrail (pointsOf index) bs v → Reads layout (pointsOf index) bs v
+  decoder-reads = yields-reads layout (pointsOf index) counted
 
-  is-unmapped : (lead b : ℕ) → isTrail b ≡ true → isMapped (getD index (pointerOf lead b) 0) ≡ false → pairOf index lead b ≡ malformedOf b
-  unfolding pairOf entryOf
-  is-unmapped lead b t m = rw (t, m)
+  pub decoder-yields : (bs : List ℕ) (v : Event) → Reads layout (pointsOf index) bs v → Yields isTrail (pointsOf index) bs v
+  decoder-yields = reads-yields layout (pointsOf index) counted
 
-  is-no-pair : (lead b : ℕ) → isTrail b ≡ false → pairOf index lead b ≡ malformedOf b
-  unfolding pairOf
-  is-no-pair lead b t = rw t
-
-  pub pair-right : (lead b : ℕ) (e : Event) → Pair index lead b e → pairOf index lead b ≡ e
-  pair-right l b₀ e (mapped lead b t m) = is-mapped lead b t m
-  pair-right l b₀ e (unmapped lead b t m) = is-unmapped lead b t m
-  pair-right l b₀ e (no-trail lead b t) = is-no-pair lead b t
-
-  by-test : (lead b : ℕ) (s m : Bool) → isTrail b ≡ s → isMapped (getD index (pointerOf lead b) 0) ≡ m → Pair index lead b (pairOf index lead b)
-  by-test lead b true true t e = rw (is-mapped lead b t e) (mapped lead b t e)
-  by-test lead b true false t e = rw (is-unmapped lead b t e) (unmapped lead b t e)
-  by-test lead b false m t e = rw (is-no-pair lead b t) (no-trail lead b t)
-
-  pub pair-all : (lead b : ℕ) → Pair index lead b (pairOf index lead b)
-  pair-all lead b = by-test lead b (isTrail b) (isMapped (getD index (pointerOf lead b) 0)) refl refl
-
-  -- ---- the sequences of bytes: the decoder reads them as the pairs, the ASCII bytes and the lone bytes say, and no others
-  pub decoder-reads : (bs : List ℕ) (e : Event) → Yields (Pair index) bs e → Reads (pairOf index) bs e
-  decoder-reads bs e y = yields-reads (pairOf index) (Pair index) pair-right bs e y
-
-  pub decoder-yields : (bs : List ℕ) (e : Event) → Reads (pairOf index) bs e → Yields (Pair index) bs e
-  decoder-yields bs e r = reads-yields (pairOf index) (Pair index) pair-all bs e r
+  -- a mapped pair is its code point
+  pub mapped-pair : (lead b : ℕ) → isTrail b ≡ true → isMapped (getD index (pointerOf lead b) 0) ≡ true → pairOf index lead b ≡ Point (getD index (pointerOf lead b) 0)
+  mapped-pair lead b t m = sym (pair-mapped index lead b (pointerOf lead b) (getD index (pointerOf lead b) 0) t refl refl m)

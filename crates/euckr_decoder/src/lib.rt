@@ -1,7 +1,7 @@
 // The Standard's EUC-KR decoder over a lent index, one byte.
 ghost use mathlib.Core.Path.{_≡_};
 ghost use mathlib.Core.Bool.{true};
-ghost use Rattle.euckr_decoder.specs.Standard.{isTrail, pointerOf, isMapped, pairOf, decodeOf, replyOf};
+ghost use Rattle.euckr_decoder.specs.Standard.{isTrail, pointerOf, pairOf, decodeOf, replyOf};
 use pairs::Decoded;
 use pairs::Event;
 use pairs::Reply;
@@ -22,28 +22,13 @@ fn pointer(lead: u8, b: u8) -> usize
     pairs::rows(lead) * 190 + (b - 0x41) as usize
 }
 
-fn is_mapped(entry: u32) -> bool
-    ensures { λ r. ⌜ r ≡ isMapped entry ⌝ }
-{
-    if entry < 0x80 {
-        return false;
-    }
-    if entry < 0xD800 {
-        return true;
-    }
-    if entry < 0xE000 {
-        return false;
-    }
-    entry < 0x10000
-}
-
 // A lead and the byte after it.
 fn pair(lead: u8, b: u8, index: &[u32]) -> Event
     ensures { λ r. ⌜ r ≡ pairOf (now (index .entry)) lead b ⌝ }
 {
     if is_trail(b) {
-        let entry = pairs::entry(index, pointer(lead, b));
-        if is_mapped(entry) {
+        let entry = entries::entry(index, pointer(lead, b));
+        if entries::is_mapped(entry) {
             return Event::Point(entry);
         }
     }

@@ -6,7 +6,7 @@ use Rattle.iso2022jp.specs.declared.DecoderState.the-variants.{Ascii, Ro
 use Rattle.iso2022jp.specs.declared.OutputState.{OutputState as MachineOutput}
 use Rattle.iso2022jp.specs.declared.OutputState.the-variants.{Ascii as OutAscii, Roman as OutRoman, Katakana as OutKatakana, LeadByte as OutLeadByte}
 use Rattle.iso2022jp.specs.declared.Iso2022Jp.{Iso2022Jp}
-use Rattle.laws.specs.Validator.{Result, outcomeBy}
+use Rattle.laws.specs.Validator.{Verdict, outcomeBy}
 use Rattle.iso2022jp.specs.Standard.{DecoderState, ascii, roman, katakana, lead-byte, trail-byte, escape-start, escape, OutputState, out-ascii, out-roman, out-katakana, out-lead-byte, Decoder}
 use Rattle.iso2022jp.specs.Iso2022Jp.{holds}
 
@@ -38,5 +38,5 @@ pendingLead escape lead = lead
 abbrev pub recordOf : Decoder → Iso2022Jp
 recordOf d = holds (decoderState (d .decoder-state)) (outputState (d .output-state)) (pendingLead (d .decoder-state) (d .lead)) (d .output)
 
-abbrev pub outcomeOf : Result Decoder → Outcome Iso2022Jp
+abbrev pub outcomeOf : Verdict Decoder → Outcome Iso2022Jp
 outcomeOf r = outcomeBy recordOf r

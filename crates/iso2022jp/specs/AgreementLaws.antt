@@ -2,14 +2,15 @@
 -- record of variables that the decoder can have is one that the kind can hold. Assumes nothing.
 use mathlib.Core.Path.{_≡_, refl, sym, ap, _∙_}
 use mathlib.Core.Bool.{Bool, true, false, cond}
-use mathlib.Core.List.{List}
+use mathlib.Core.List.{List, [], _∷_}
 use mathlib.Core.Logic.{_⊎_}
 use Prim.Native.Nat.{ℕ, _≤_}
 use native.Mathlib.Omega.{arith}
 use lib.Dec.{eqb}
 use borrow.Author.Tests.{eqb-true}
 use Rattle.laws.specs.Tests.{either, through}
-use Rattle.laws.specs.Validator.{end-of-queue, byte, Result, after, at-start, on, outcomeBy, decoded, decodes}
+use Rattle.laws.specs.Handler.{end-of-queue, byte, after}
+use Rattle.laws.specs.Validator.{Verdict, at-start, on, outcomeBy, decoded, decodes}
 use Rattle.laws.specs.Run.{run, ended}
 use Rattle.octets.specs.Octets.{between}
 use Rattle.octets.specs.BetweenLaws.{below, between-low, between-high}
@@ -68,7 +69,7 @@ module _ (index : List ℕ) (out : OutputState) (lead : ℕ) (output : Bool) (b 
   unfolding stepIn trailOf handler on-byte outcomeBy
   in-trail-byte-agrees = trail-at (eqb b 0x1B) refl ∙ sym (simp (through outcomeOf))
 
-  escaped : (s : Set) (t : Bool) → escapedTo t (designation s) ≡ outcomeOf (after-set (variables escape out lead t) s)
+  escaped : (s : Set) (t : Bool) → escapedTo t (designation s) ≡ outcomeOf (after-set (lead ∷ b ∷ []) (variables escape out lead t) s)
   unfolding escapedTo stateOf after-set outcomeBy
   escaped null t = refl
   escaped (state out-ascii) true = refl
@@ -99,7 +100,7 @@ step-agrees index d b = agrees index (d .output-state) (d .lead) (d .output) b (
 
 -- ---- the end
 closes : (st : DecoderState) (out : OutputState) (lead : ℕ) (output : Bool) → closeOf (recordOf (variables st out lead output)) ≡ outcomeOf (on-end st (variables st out lead output))
-unfolding closeIn on-end outcomeBy
+unfolding closeIn on-end after-set outcomeBy
 closes ascii out lead output = refl
 closes roman out lead output = refl
 closes katakana out lead output = refl
@@ -131,7 +132,7 @@ HeldLead trail-byte lead = (0x21 ≤ lead) × (lead ≤ 0x7E)
 HeldLead escape-start lead = Unit {0}
 HeldLead escape lead = (lead ≡ 0x24) ⊎ (lead ≡ 0x28)
 
-abbrev Held : Result Decoder → Type 0
+abbrev Held : Verdict Decoder → Type 0
 Held r = HeldLead (after r .decoder-state) (after r .lead)
 
 as-held : (o : OutputState) (lead : ℕ) → HeldLead (as-state o) lead
@@ -144,7 +145,7 @@ module _ (indexed : ℕ → Bool) (out : OutputState) (lead : ℕ) (output : Boo
   abbrev OnByte : DecoderState → Type 0
   OnByte st = Held (on-byte indexed st (variables st out lead output) b)
 
-  set-held : (s : Set) → Held (after-set (variables escape out lead output) s)
+  set-held : (s : Set) → Held (after-set (lead ∷ b ∷ []) (variables escape out lead output) s)
   unfolding after-set after
   set-held null = as-held out 0
   set-held (state o) = either Held output (λ e. as-held o 0) (λ e. as-held o 0)

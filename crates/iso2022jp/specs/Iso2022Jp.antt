@@ -12,6 +12,7 @@ use Rattle.lengths.specs.Lengths.{jisCount}
 use Rattle.laws.specs.Limit.{limit}
 use Rattle.laws.specs.Run.{dropout, Outcome, none, live, run}
 use Rattle.octets.specs.Octets.{between}
+use Rattle.entries.specs.Entries.{isMapped}
 use Rattle.iso2022jp.specs.declared.DecoderState.{DecoderState}
 use Rattle.iso2022jp.specs.declared.DecoderState.the-variants.{Ascii, Roman, Katakana, LeadByte, TrailByte, EscapeStart, Escape}
 use Rattle.iso2022jp.specs.declared.OutputState.{OutputState}
@@ -62,13 +63,9 @@ abbrev pub soundB : Iso2022Jp → Bool
 soundB m = leadInB (m .state) (m .lead)
 
 -- ---- the lent index
--- an entry that is a code point
-unfoldable pub mapped : ℕ → Bool
-mapped entry = between 0x80 0xD7FF entry || between 0xE000 0xFFFF entry
-
 -- whether the index has a code point at a pointer
 abbrev pub indexedBy : List ℕ → ℕ → Bool
-indexedBy index pointer = mapped (getD index pointer 0)
+indexedBy index pointer = isMapped (getD index pointer 0)
 
 -- ---- one byte
 abbrev pub alive : Iso2022Jp → Outcome Iso2022Jp

@@ -5,7 +5,7 @@ use mathlib.Core.List.{List, [], _∷_, _++_}
 use mathlib.Core.Logic.{_⊎_, inl, inr}
 use Prim.Native.Nat.{ℕ, _<_, _≤_}
 use native.Mathlib.Omega.{arith}
-use lib.Dec.{eqb, leb, ltb}
+use lib.Dec.{eqb, ltb}
 use lib.IntN.{ℤ, pos}
 use lib.ListN.{length}
 use borrow.Author.Tests.{eq-eqb, ne-eqb, eqb-true, le-leb, lt-leb, leb-true, ltb-true, ltb-false, not-true}
@@ -16,7 +16,7 @@ use Rattle.laws.specs.Run.{Outcome, live, run, run-append}
 use Rattle.laws.specs.Still.{Ends, run-ends}
 use Rattle.laws.specs.Tests.{both, neither, either}
 use Rattle.octets.specs.Octets.{between}
-use Rattle.octets.specs.BetweenLaws.{inside, below, above, between-low, between-high}
+use Rattle.octets.specs.BetweenLaws.{inside, above, between-low, between-high}
 use Rattle.iso2022jp.specs.declared.DecoderState.{DecoderState}
 use Rattle.iso2022jp.specs.declared.DecoderState.the-variants.{Ascii, Roman, Katakana, LeadByte, TrailByte, EscapeStart, Escape}
 use Rattle.iso2022jp.specs.declared.OutputState.{OutputState}
@@ -26,25 +26,7 @@ use Rattle.iso2022jp.specs.declared.Designated.the-variants.{To, Nothing
 use Rattle.iso2022jp.specs.declared.Iso2022Jp.{Iso2022Jp}
 use Rattle.iso2022jp.specs.declared.Ran.{Ran}
 use Rattle.iso2022jp.specs.declared.Ran.the-variants.{Unfit}
-use Rattle.iso2022jp.specs.Iso2022Jp.{Passes, holds, fresh, LeadIn, Sound, leadsEscape, leadInB, soundB, mapped, indexedBy, alive, escapeByte, putOut, isText, asciiOf, rangedOf, pairAt, trailOf, escapeStartOf, designated, stateOf, escapedTo, stepIn, stepOf, closeOf, ranAs, Ready, readyB, ranOf, closedOf}
-
--- ---- an entry of the index, each way through the code
-module _ (entry : ℕ) where
-  pub mapped-low : entry < 0x80 → false ≡ mapped entry
-  unfolding mapped
-  mapped-low h = rw (below 0x80 0xD7FF entry h, below 0xE000 0xFFFF entry (omega arith))
-
-  pub mapped-first : 0x80 ≤ entry → entry ≤ 0xD7FF → true ≡ mapped entry
-  unfolding mapped
-  mapped-first p q = rw (inside 0x80 0xD7FF entry p q)
-
-  pub mapped-gap : 0xD7FF < entry → entry < 0xE000 → false ≡ mapped entry
-  unfolding mapped
-  mapped-gap p q = rw (above 0x80 0xD7FF entry p, below 0xE000 0xFFFF entry q)
-
-  pub mapped-second : 0xE000 ≤ entry → leb entry 0xFFFF ≡ mapped entry
-  unfolding mapped
-  mapped-second p = rw (above 0x80 0xD7FF entry (omega arith), le-leb 0xE000 entry p)
+use Rattle.iso2022jp.specs.Iso2022Jp.{Passes, holds, fresh, LeadIn, Sound, leadsEscape, leadInB, soundB, indexedBy, alive, escapeByte, putOut, isText, asciiOf, rangedOf, pairAt, trailOf, escapeStartOf, designated, stateOf, escapedTo, stepIn, stepOf, closeOf, ranAs, Ready, readyB, ranOf, closedOf}
 
 -- ---- a byte in ASCII and Roman
 module _ (b : ℕ) where

@@ -1,11 +1,12 @@
 -- The Encoding Standard's ISO-2022-JP decoder, in its variables and its order, as far as a validator goes: what the code point
 -- is does not matter, only whether there is one. Assumes nothing.
 use mathlib.Core.Bool.{Bool, true, false, cond, not, _&&_, _||_}
-use mathlib.Core.List.{[], _∷_}
+use mathlib.Core.List.{List, [], _∷_}
 use Prim.Native.Nat.{ℕ, _+_, _-_, _*_}
 use lib.Dec.{eqb}
 use Rattle.laws.specs.Lists.{isIn}
-use Rattle.laws.specs.Validator.{Item, end-of-queue, byte, Result, continue, code-point, error, finished, ReachedBy}
+use Rattle.laws.specs.Handler.{Item, end-of-queue, byte, continue, code-point, error, finished}
+use Rattle.laws.specs.Validator.{Verdict, ReachedBy}
 use Rattle.octets.specs.Octets.{between}
 
 pub data DecoderState : Type 0 where
@@ -57,41 +58,41 @@ abbrev pub is-text : ℕ → Bool
 is-text b = between 0x00 0x7F b && not (isIn (0x0E ∷ 0x0F ∷ 0x1B ∷ []) b)
 
 -- ASCII; and Roman, where 5C and 7E give other code points
-abbrev pub in-ascii : Decoder → ℕ → Result Decoder
+abbrev pub in-ascii : Decoder → ℕ → Verdict Decoder
 in-ascii d b =
     cond (eqb b 0x1B) (continue (to escape-start d))
-    (cond (is-text b) (code-point (quiet d)) (error (quiet d)))
+    (cond (is-text b) (code-point tt (quiet d)) (error [] (quiet d)))
 
-abbrev pub in-katakana : Decoder → ℕ → Result Decoder
+abbrev pub in-katakana : Decoder → ℕ → Verdict Decoder
 in-katakana d b =
     cond (eqb b 0x1B) (continue (to escape-start d))
-    (cond (between 0x21 0x5F b) (code-point (quiet d)) (error (quiet d)))
+    (cond (between 0x21 0x5F b) (code-point tt (quiet d)) (error [] (quiet d)))
 
-abbrev pub in-lead-byte : Decoder → ℕ → Result Decoder
+abbrev pub in-lead-byte : Decoder → ℕ → Verdict Decoder
 in-lead-byte d b =
     cond (eqb b 0x1B) (continue (to escape-start d))
-    (cond (between 0x21 0x7E b) (continue (variables trail-byte (d .output-state) b false)) (error (quiet d)))
+    (cond (between 0x21 0x7E b) (continue (variables trail-byte (d .output-state) b false)) (error [] (quiet d)))
 
 -- the pointer into the index
 abbrev pub pointer : ℕ → ℕ → ℕ
 pointer lead b = (lead - 0x21) * 94 + b - 0x21
 
 -- indexed: whether the index has a code point at a pointer
-abbrev pub in-trail-byte : (ℕ → Bool) → Decoder → ℕ → Result Decoder
+abbrev pub in-trail-byte : (ℕ → Bool) → Decoder → ℕ → Verdict Decoder
 in-trail-byte indexed d b =
-    cond (eqb b 0x1B) (error (to escape-start d))
+    cond (eqb b 0x1B) (error [] (to escape-start d))
     (cond (between 0x21 0x7E b)
-    (cond (indexed (pointer (d .lead) b)) (code-point (to lead-byte d)) (error (to lead-byte d)))
-    (error (to lead-byte d)))
+    (cond (indexed (pointer (d .lead) b)) (code-point tt (to lead-byte d)) (error [] (to lead-byte d)))
+    (error [] (to lead-byte d)))
 
--- an escape that is none: output false, decoder state is the output state
-abbrev pub no-escape : Decoder → Result Decoder
-no-escape d = error (variables (as-state (d .output-state)) (d .output-state) (d .lead) false)
+-- an escape that is none: the bytes after 1B are restored, output false, decoder state is the output state
+abbrev pub no-escape : List ℕ → Decoder → Verdict Decoder
+no-escape restored d = error restored (variables (as-state (d .output-state)) (d .output-state) (d .lead) false)
 
-abbrev pub in-escape-start : Decoder → ℕ → Result Decoder
+abbrev pub in-escape-start : Decoder → ℕ → Verdict Decoder
 in-escape-start d b =
     cond (eqb b 0x24 || eqb b 0x28) (continue (variables escape (d .output-state) b (d .output)))
-    (no-escape d)
+    (no-escape (b ∷ []) d)
 
 -- the state that an escape's two bytes set, or null
 pub data Set : Type 0 where
@@ -106,15 +107,15 @@ set-by lead b =
     (cond (eqb lead 0x24 && (eqb b 0x40 || eqb b 0x42)) (state out-lead-byte) null)))
 
 -- lead becomes 0. A state that is set: decoder state and output state become it, output becomes true, and it is an error if output was true
-unfoldable pub after-set : Decoder → Set → Result Decoder
-after-set d null = no-escape (variables (d .decoder-state) (d .output-state) 0 (d .output))
-after-set d (state o) = cond (d .output) (error (variables (as-state o) o 0 true)) (continue (variables (as-state o) o 0 true))
+unfoldable pub after-set : List ℕ → Decoder → Set → Verdict Decoder
+after-set restored d null = no-escape restored (variables (d .decoder-state) (d .output-state) 0 (d .output))
+after-set restored d (state o) = cond (d .output) (error [] (variables (as-state o) o 0 true)) (continue (variables (as-state o) o 0 true))
 
-abbrev pub in-escape : Decoder → ℕ → Result Decoder
-in-escape d b = after-set d (set-by (d .lead) b)
+abbrev pub in-escape : Decoder → ℕ → Verdict Decoder
+in-escape d b = after-set (d .lead ∷ b ∷ []) d (set-by (d .lead) b)
 
 -- a byte, by decoder state
-unfoldable pub on-byte : (ℕ → Bool) → DecoderState → Decoder → ℕ → Result Decoder
+unfoldable pub on-byte : (ℕ → Bool) → DecoderState → Decoder → ℕ → Verdict Decoder
 on-byte indexed ascii d b = in-ascii d b
 on-byte indexed roman d b = in-ascii d b
 on-byte indexed katakana d b = in-katakana d b
@@ -124,16 +125,16 @@ on-byte indexed escape-start d b = in-escape-start d b
 on-byte indexed escape d b = in-escape d b
 
 -- the end, by decoder state
-unfoldable pub on-end : DecoderState → Decoder → Result Decoder
+unfoldable pub on-end : DecoderState → Decoder → Verdict Decoder
 on-end ascii d = finished d
 on-end roman d = finished d
 on-end katakana d = finished d
 on-end lead-byte d = finished d
-on-end trail-byte d = error (to lead-byte d)
-on-end escape-start d = no-escape d
-on-end escape d = no-escape (variables (d .decoder-state) (d .output-state) 0 (d .output))
+on-end trail-byte d = error [] (to lead-byte d)
+on-end escape-start d = no-escape [] d
+on-end escape d = after-set (d .lead ∷ []) d null
 
-unfoldable pub handler : (ℕ → Bool) → Decoder → Item → Result Decoder
+unfoldable pub handler : (ℕ → Bool) → Decoder → Item → Verdict Decoder
 handler indexed d end-of-queue = on-end (d .decoder-state) d
 handler indexed d (byte b) = on-byte indexed (d .decoder-state) d b
 

@@ -6,7 +6,7 @@ ghost use lib.ListN.{length};
 ghost use Rattle.laws.specs.Run.{run};
 ghost use Rattle.lengths.specs.Lengths.{jisCount};
 ghost use Rattle.octets.specs.Octets.{between};
-ghost use Rattle.iso2022jp.specs.Iso2022Jp.{Sound, Passes, alive, asciiOf, closedOf, designated, escapeOf, escapeStartOf, fresh, isText, katakanaOf, leadOf, leadsEscape, mapped, outOf, ranAs, ranOf, rangedOf, soundB, started, stateOf, stepOf, trailOf};
+ghost use Rattle.iso2022jp.specs.Iso2022Jp.{Sound, Passes, alive, asciiOf, closedOf, designated, escapeOf, escapeStartOf, fresh, isText, katakanaOf, leadOf, leadsEscape, outOf, ranAs, ranOf, rangedOf, soundB, started, stateOf, stepOf, trailOf};
 
 pub enum DecoderState {
     Ascii,
@@ -84,22 +84,6 @@ fn is_text(b: u8) -> bool
         return false;
     }
     b < 0x80
-}
-
-// Whether an entry of the index is a code point.
-fn is_mapped(entry: u32) -> bool
-    ensures { λ r. ⌜ r ≡ mapped entry ⌝ }
-{
-    if entry < 0x80 {
-        return false;
-    }
-    if entry <= 0xD7FF {
-        return true;
-    }
-    if entry < 0xE000 {
-        return false;
-    }
-    entry <= 0xFFFF
 }
 
 // What an escape's last two bytes designate.
@@ -260,7 +244,7 @@ impl Iso2022Jp {
             return Stepped::Invalid;
         }
         let at = (self.lead - 0x21) as usize * 94 + (b - 0x21) as usize;
-        if is_mapped(index[at]) {
+        if entries::is_mapped(index[at]) {
             let out = self.out;
             return Stepped::Alive(
                 Iso2022Jp {

@@ -4,6 +4,7 @@ pub mod Carried
 pub mod Determined
 pub mod Each
 pub mod Going
+pub mod Handler
 pub mod Limit
 pub mod Lists
 pub mod Memory

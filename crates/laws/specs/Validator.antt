@@ -1,58 +1,43 @@
--- The Encoding Standard's decoders as far as a validator goes: what the code point is does not matter, only whether there is one.
--- Vars are a decoder's variables. A machine that agrees with a decoder at every item agrees with it over a whole stream.
--- Assumes nothing.
+-- The Encoding Standard's decoders as far as a validator goes: up to the first error, so that what is restored is not read again.
+-- A machine that agrees with a decoder at every item agrees with it over a whole stream. Assumes nothing.
 use mathlib.Core.Path.{_≡_, ap, _∙_}
 use mathlib.Core.List.{List, [], _∷_}
 use Prim.Native.Nat.{ℕ}
 use lib.IntN.{pos}
+use Rattle.laws.specs.Handler.{Item, end-of-queue, byte, Result, continue, code-point, error, finished, after}
 use Rattle.laws.specs.Run.{dropout, Outcome, none, live, run, run-nil, plus-zero, ended}
 use Rattle.laws.specs.Still.{run-first, run-drops}
 
--- what a decoder reads from its queue
-pub data Item : Type 0 where
-  end-of-queue : Item
-  byte : ℕ → Item
-
--- what it returns, with its variables as it leaves them
-pub data Result (Vars : Type 0) : Type 0 where
-  continue : Vars → Result Vars
-  code-point : Vars → Result Vars
-  error : Vars → Result Vars
-  finished : Vars → Result Vars
-
--- the variables after a result
-unfoldable pub after : {Vars : Type 0} → Result Vars → Vars
-after (continue d) = d
-after (code-point d) = d
-after (error d) = d
-after (finished d) = d
+-- what the code point is does not matter, only whether there is one
+abbrev pub Verdict : Type 0 → Type 0
+Verdict Vars = Result (Unit {0}) Vars
 
 -- what the variables can be: the initial ones, and those after any byte, error or not, from ones that they can be
-pub data ReachedBy {Vars : Type 0} (handler : Vars → Item → Result Vars) (initial : Vars) : Vars → Type 0 where
+pub data ReachedBy {P Vars : Type 0} (handler : Vars → Item → Result P Vars) (initial : Vars) : Vars → Type 0 where
   at-start : ReachedBy handler initial initial
   on : {d : Vars} → ReachedBy handler initial d → (b : ℕ) → ReachedBy handler initial (after (handler d (byte b)))
 
 -- a validator goes on from all but an error
-unfoldable pub unless-error : {Vars : Type 0} → Result Vars → (Vars → Result Vars) → Result Vars
+unfoldable pub unless-error : {P Vars : Type 0} → Result P Vars → (Vars → Result P Vars) → Result P Vars
 unless-error (continue d) next = next d
-unless-error (code-point d) next = next d
-unless-error (error d) next = error d
+unless-error (code-point p d) next = next d
+unless-error (error restored d) next = error restored d
 unless-error (finished d) next = next d
 
 -- the bytes and then the end, up to the first error
-unfoldable pub decoded : {Vars : Type 0} → (Vars → Item → Result Vars) → Vars → List ℕ → Result Vars
+unfoldable pub decoded : {P Vars : Type 0} → (Vars → Item → Result P Vars) → Vars → List ℕ → Result P Vars
 decoded handler d [] = handler d end-of-queue
 decoded handler d (b ∷ bs) = unless-error (handler d (byte b)) (λ d′. decoded handler d′ bs)
 
 -- an error drops a machine out; all else leaves it alive, with its score as it was and the record of the variables
-unfoldable pub outcomeBy : {Vars S : Type 0} → (Vars → S) → Result Vars → Outcome S
+unfoldable pub outcomeBy : {P Vars S : Type 0} → (Vars → S) → Result P Vars → Outcome S
 outcomeBy recordOf (continue d) = live (recordOf d) (pos 0)
-outcomeBy recordOf (code-point d) = live (recordOf d) (pos 0)
-outcomeBy recordOf (error d) = none dropout
+outcomeBy recordOf (code-point p d) = live (recordOf d) (pos 0)
+outcomeBy recordOf (error restored d) = none dropout
 outcomeBy recordOf (finished d) = live (recordOf d) (pos 0)
 
 -- ---- from each item to a whole stream
-module _ {Vars S : Type 0} (handler : Vars → Item → Result Vars) (initial : Vars) (recordOf : Vars → S) (step : S → ℕ → Outcome S) (close : S → Outcome S) where
+module _ {P Vars S : Type 0} (handler : Vars → Item → Result P Vars) (initial : Vars) (recordOf : Vars → S) (step : S → ℕ → Outcome S) (close : S → Outcome S) where
   abbrev pub AgreesAt : Vars → Type 0
   AgreesAt d = ((b : ℕ) → step (recordOf d) b ≡ outcomeBy recordOf (handler d (byte b))) × (close (recordOf d) ≡ outcomeBy recordOf (handler d end-of-queue))
 
@@ -60,11 +45,11 @@ module _ {Vars S : Type 0} (handler : Vars → Item → Result Vars) (initial : 
     abbrev Decodes : Vars → List ℕ → Type 0
     Decodes d xs = ended close (run step (live (recordOf d) (pos 0)) xs) ≡ outcomeBy recordOf (decoded handler d xs)
 
-    goes-on : (d : Vars) (b : ℕ) (bs : List ℕ) (r : Result Vars) → step (recordOf d) b ≡ outcomeBy recordOf r → Decodes (after r) bs → ended close (run step (live (recordOf d) (pos 0)) (b ∷ bs)) ≡ outcomeBy recordOf (unless-error r (λ d′. decoded handler d′ bs))
+    goes-on : (d : Vars) (b : ℕ) (bs : List ℕ) (r : Result P Vars) → step (recordOf d) b ≡ outcomeBy recordOf r → Decodes (after r) bs → ended close (run step (live (recordOf d) (pos 0)) (b ∷ bs)) ≡ outcomeBy recordOf (unless-error r (λ d′. decoded handler d′ bs))
     unfolding outcomeBy after unless-error ended
     goes-on d b bs (continue e) p q = ap (ended close) (run-first step (recordOf d) (recordOf e) b bs p) ∙ q
-    goes-on d b bs (code-point e) p q = ap (ended close) (run-first step (recordOf d) (recordOf e) b bs p) ∙ q
-    goes-on d b bs (error e) p q = ap (ended close) (run-drops step (recordOf d) tt b bs p)
+    goes-on d b bs (code-point c e) p q = ap (ended close) (run-first step (recordOf d) (recordOf e) b bs p) ∙ q
+    goes-on d b bs (error restored e) p q = ap (ended close) (run-drops step (recordOf d) tt b bs p)
     goes-on d b bs (finished e) p q = ap (ended close) (run-first step (recordOf d) (recordOf e) b bs p) ∙ q
 
     pub decodes : (d : Vars) (xs : List ℕ) → ReachedBy handler initial d → Decodes d xs

@@ -11,8 +11,6 @@ use Rattle.pairs.proofs.first.Kinds as first-kinds
 use Rattle.pairs.proofs.first.Reads as first-reads
 use Rattle.pairs.proofs.rows.Kinds as rows-kinds
 use Rattle.pairs.proofs.rows.Reads as rows-reads
-use Rattle.pairs.proofs.entry.Kinds as entry-kinds
-use Rattle.pairs.proofs.entry.Reads as entry-reads
 use Rattle.pairs.proofs.is_held_lead.Kinds as is-held-lead-kinds
 use Rattle.pairs.proofs.is_held_lead.Reads as is-held-lead-reads
 use Rattle.pairs.proofs.is_letter.Kinds as is-letter-kinds
@@ -36,9 +34,6 @@ first = record { total = λ κs a. tt; one = λ κs a z z′ w w′ p q. (same p
 
 pub rows : Determined 0 rows-kinds.ps rows-kinds.r rows-reads.Asked rows-reads.Learnt
 rows = record { total = λ κs a. tt; one = λ κs a z z′ w w′ p q. (same p q, refl) }
-
-pub entry : Determined 1 entry-kinds.ps entry-kinds.r entry-reads.Asked entry-reads.Learnt
-entry = record { total = λ κs a. tt; one = λ κs a z z′ w w′ p q. (same p q, refl) }
 
 pub is-held-lead : Determined 0 is-held-lead-kinds.ps is-held-lead-kinds.r is-held-lead-reads.Asked is-held-lead-reads.Learnt
 is-held-lead = record { total = λ κs a. tt; one = λ κs a z z′ w w′ p q. (same p q, refl) }

@@ -1,5 +1,10 @@
 pub mod Pairs
+pub mod Standard
+pub mod Events
 pub mod PairsLaws
+pub mod Places
+pub mod PlacesLaws
 pub mod Sequences
+pub mod SequencesLaws
 pub mod Ranges
 pub mod Sums

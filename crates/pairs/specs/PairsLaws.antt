@@ -1,16 +1,16 @@
--- Laws of the frame, both ways: what a byte yields where no lead is pending, and the length of an error. Assumes nothing.
+-- What a lead can be, what lead the handler leaves, and the test of a held score. Assumes nothing.
 use mathlib.Core.Path.{_≡_, refl}
-use mathlib.Core.Bool.{Bool, true, false, cond, _||_}
+use mathlib.Core.Bool.{Bool, true, false, _||_, or-true}
 use Prim.Native.Nat.{ℕ, _≤_}
 use native.Mathlib.Omega.{arith}
 use lib.Dec.{eqb}
 use borrow.Author.Tests.{leb-true, le-leb, eqb-true, ne-eqb}
+use Rattle.laws.specs.Handler.{byte, Result, after}
+use Rattle.laws.specs.Tests.{either}
 use Rattle.octets.specs.Octets.{ascii}
-use Rattle.pairs.specs.Pairs.{isLead, isLeadOrNone, decoded, firstOf, handlerOf, SmallHeld, smallHeldB}
+use Rattle.pairs.specs.Pairs.{isLead, isLeadOrNone, SmallHeld, smallHeldB}
+use Rattle.pairs.specs.Standard.{CodePoints, null, one, two, Layout, first, returned, handler}
 use Rattle.pairs.specs.Ranges.{range-true}
-use Rattle.pairs.specs.declared.Decoded.{Decoded}
-use Rattle.pairs.specs.declared.Event.{Event}
-use Rattle.pairs.specs.declared.Event.the-variants.{Pending, Point, Error}
 use Rattle.pairs.specs.declared.Held.{Held}
 
 -- ---- what a decoder can hold
@@ -27,25 +27,21 @@ none-or lead false z e = lead-bounds lead e .1
 pub lead-most : (lead : ℕ) → isLeadOrNone lead ≡ true → lead ≤ 0xFE
 lead-most lead e = none-or lead (eqb lead 0) refl e
 
-or-yes : (t : Bool) → (t || true) ≡ true
-or-yes true = refl
-or-yes false = refl
+-- ---- the lead after a byte
+pub returned-lead : (b : ℕ) (ps : CodePoints) → after (returned b ps) ≡ 0
+unfolding after returned
+returned-lead b null = refl
+returned-lead b (one p) = refl
+returned-lead b (two p q) = refl
 
-first-lead : (b : ℕ) (t : Bool) → isLead b ≡ t → isLeadOrNone (cond t (decoded b Pending) (decoded 0 (Error 1)) .lead) ≡ true
-first-lead b true e = rw e (or-yes (eqb b 0))
-first-lead b false e = refl
-
-pick-lead : (t : Bool) (d e : Decoded) → isLeadOrNone (d .lead) ≡ true → isLeadOrNone (e .lead) ≡ true → isLeadOrNone (cond t d e .lead) ≡ true
-pick-lead true d e p q = p
-pick-lead false d e p q = q
+abbrev Holds : Result CodePoints ℕ → Type 0
+Holds r = isLeadOrNone (after r) ≡ true
 
 -- the handler leaves a lead that it can hold
-pub handler-lead : (pair : ℕ → ℕ → Event) (lead b : ℕ) → isLeadOrNone (handlerOf pair lead b .lead) ≡ true
-unfolding firstOf
-handler-lead pair lead b =
-    pick-lead (eqb lead 0) (firstOf b) (decoded 0 (pair lead b))
-    (pick-lead (ascii b) (decoded 0 (Point b)) (cond (isLead b) (decoded b Pending) (decoded 0 (Error 1))) refl (first-lead b (isLead b) refl))
-    refl
+pub handler-lead : (e : Layout) (points : ℕ → CodePoints) (lead b : ℕ) → Holds (handler e points lead (byte b))
+unfolding first after
+handler-lead e points lead b =
+    either Holds (eqb lead 0) (λ z. either Holds (ascii b) (λ a. refl) (λ a. either Holds (isLead b) (λ l. rw (l, or-true)) (λ l. refl))) (λ z. rw (returned-lead b _))
 
 -- ---- a held score's test
 pub held-true : (h : Held) → smallHeldB h ≡ true → SmallHeld h

@@ -1,9 +1,9 @@
 // What Big5 and EUC-KR share: the frame of the Standard's pair decoders, and the held score.
 ghost use mathlib.Core.Path.{_≡_};
 ghost use Prim.Native.Nat.{_-_};
-ghost use lib.ListN.{getD};
 ghost use Rattle.octets.specs.Octets.{letter};
-ghost use Rattle.pairs.specs.Pairs.{isLead, isLeadOrNone, malformedOf, firstOf, isHeldLead, releasedOf, smallHeldB};
+ghost use Rattle.pairs.specs.Pairs.{isLead, isLeadOrNone, isHeldLead, releasedOf, smallHeldB};
+ghost use Rattle.pairs.specs.Events.{malformedOf, firstOf};
 
 // What a decoder yields at a byte: nothing yet, one code point, two, or an error of so many bytes.
 pub enum Event {
@@ -91,16 +91,6 @@ pub fn rows(lead: u8) -> usize
         return 0;
     }
     (lead - 0x81) as usize
-}
-
-// A lent entry, or 0 where there is none.
-pub fn entry(index: &[u32], at: usize) -> u32
-    ensures { λ r. ⌜ r ≡ getD (now (index .entry)) at 0 ⌝ }
-{
-    if at < index.len() {
-        return index[at];
-    }
-    0
 }
 
 // Whether a score is held after this byte.

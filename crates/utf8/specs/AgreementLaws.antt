@@ -2,13 +2,14 @@
 -- Assumes nothing.
 use mathlib.Core.Path.{_≡_, refl, sym}
 use mathlib.Core.Bool.{Bool, true, false, cond}
-use mathlib.Core.List.{List}
+use mathlib.Core.List.{List, [], _∷_}
 use Prim.Native.Nat.{ℕ, zero, suc, _+_, _-_, _<_, _≤_}
 use native.Mathlib.Omega.{arith}
 use lib.Dec.{eqb}
 use borrow.Author.Tests.{ne-eqb, eqb-true, eqb-false}
 use Rattle.laws.specs.Tests.{either, through}
-use Rattle.laws.specs.Validator.{end-of-queue, byte, Result, continue, code-point, error, after, at-start, on, outcomeBy, decoded, decodes}
+use Rattle.laws.specs.Handler.{end-of-queue, byte, continue, code-point, error, after}
+use Rattle.laws.specs.Validator.{Verdict, at-start, on, outcomeBy, decoded, decodes}
 use Rattle.laws.specs.Run.{run, ended}
 use Rattle.octets.specs.Octets.{between}
 use Rattle.utf8.specs.declared.Utf8.{Utf8}
@@ -22,7 +23,7 @@ data Held : Decoder → Type 0 where
   idle : Held initial
   under-way : {seen needed lower upper : ℕ} → seen < needed → Sound (needs (needed - seen) lower upper) → Held (variables seen needed lower upper)
 
-abbrev HeldAfter : Result Decoder → Type 0
+abbrev HeldAfter : Verdict Decoder → Type 0
 HeldAfter r = Held (after r)
 
 held-first : (b : ℕ) → HeldAfter (handler initial (byte b))
@@ -34,24 +35,27 @@ held-first b =
     (λ e. either HeldAfter (between 0xF0 0xF4 b) (λ e. under-way {needed = 3} (omega arith) (cut-range 3 0x90 0x8F 0xF0 0xF4 b (omega arith) (omega arith) after-F0 after-F4)) (λ e. idle))))
 
 module _ (seen needed lower upper : ℕ) (more : seen < needed) (few : needed - seen ≤ 3) (b : ℕ) where
-  -- a byte that is needed
-  goes-on : handler (variables seen needed lower upper) (byte b) ≡ cond (between lower upper b) (cond (eqb (seen + 1) needed) (code-point initial) (continue (variables (seen + 1) needed 0x80 0xBF))) (error initial)
+  -- a byte that is needed: whether it is within the boundaries, and whether it is the last
+  abbrev nextAs : Bool → Bool → Verdict Decoder
+  nextAs t u = cond t (cond u (code-point tt initial) (continue (variables (seen + 1) needed 0x80 0xBF))) (error (b ∷ []) initial)
+
+  goes-on : handler (variables seen needed lower upper) (byte b) ≡ nextAs (between lower upper b) (eqb (seen + 1) needed)
   unfolding handler
   goes-on = rw (ne-eqb needed 0 (λ (e : needed ≡ 0). omega arith))
 
-  held-next : (t u : Bool) → eqb (seen + 1) needed ≡ u → Held (after (cond t (cond u (code-point initial) (continue (variables (seen + 1) needed 0x80 0xBF))) (error initial)))
+  held-next : (t u : Bool) → eqb (seen + 1) needed ≡ u → HeldAfter (nextAs t u)
   unfolding after
   held-next true true e = idle
   held-next true false e = let n = eqb-false (seen + 1) needed e in under-way {seen = seen + 1} {needed = needed} (omega arith) (plain {n = needed - (seen + 1)} (omega arith))
   held-next false u e = idle
 
-  agrees-next : (t u : Bool) → eqb (seen + 1) needed ≡ u → cond t (alive (needs (needed - seen - 1) 0x80 0xBF)) dropped ≡ outcomeOf (cond t (cond u (code-point initial) (continue (variables (seen + 1) needed 0x80 0xBF))) (error initial))
+  agrees-next : (t u : Bool) → eqb (seen + 1) needed ≡ u → cond t (alive (needs (needed - seen - 1) 0x80 0xBF)) dropped ≡ outcomeOf (nextAs t u)
   unfolding outcomeBy
   agrees-next true true e = let n : needed - seen - 1 ≡ 0 = omega (arith, eqb-true (seen + 1) needed e) in rw n
   agrees-next true false e = let n : needed - seen - 1 ≡ needed - (seen + 1) = omega arith in rw n
   agrees-next false u e = refl
 
-held-on : (d : Decoder) (b : ℕ) → Held d → Held (after (handler d (byte b)))
+held-on : (d : Decoder) (b : ℕ) → Held d → HeldAfter (handler d (byte b))
 held-on d b idle = held-first b
 held-on d b (under-way {seen} {needed} {lower} {upper} h s) =
     rw (goes-on seen needed lower upper h (most-needed _ s) b) (held-next seen needed lower upper h (most-needed _ s) b (between lower upper b) (eqb (seen + 1) needed) refl)

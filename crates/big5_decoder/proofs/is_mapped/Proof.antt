@@ -1,26 +1,30 @@
 -- `is_mapped` meets its contract. Assumes nothing.
+use mathlib.Core.Path.{_≡_, sym, _∙_}
+use mathlib.Core.Bool.{true, false}
 use native.Mathlib.Omega.{arith}
-use Rattle.pairs.specs.Ranges.{inside, below, above, up-to}
+use borrow.Author.Needs.{needs}
+use Rattle.entries.specs.Entries.{isMapped}
+use Rattle.pairs.specs.Ranges.{below, up-to}
 use Rattle.big5_decoder.proofs.is_mapped.Statement.{statement}
 use Rattle.big5_decoder.proofs.is_mapped.Tie as tie
 
+is-mapped-requires : tie.Need-is-mapped-requires
+is-mapped-requires c κs = search needs
+
 returns : tie.Need-returns
-returns c = let x = c .before .args .entry in rw (below 0x80 0xD7FF x (omega arith), below 0xE000 0xFFFF x (omega arith), below 0x20000 0x2FFFF x (omega arith))
+returns c = let t : isMapped (c .before .before .args .entry) ≡ true = sym (c .before .is-mapped .ensures) ∙ c .if1 .taken in rw t
 
 returns-2 : tie.Need-returns-2
-returns-2 c = let x = c .before .before .args .entry in rw (inside 0x80 0xD7FF x (omega arith) (omega arith))
+returns-2 c =
+    let x = c .before .before .before .args .entry in
+    let t : isMapped x ≡ false = sym (c .before .before .is-mapped .ensures) ∙ c .before .if1 .left in
+    rw (t, below 0x20000 0x2FFFF x (omega arith))
 
 returns-3 : tie.Need-returns-3
-returns-3 c = let x = c .before .before .before .args .entry in rw (above 0x80 0xD7FF x (omega arith), below 0xE000 0xFFFF x (omega arith), below 0x20000 0x2FFFF x (omega arith))
-
-returns-4 : tie.Need-returns-4
-returns-4 c = let x = c .before .before .before .before .args .entry in rw (above 0x80 0xD7FF x (omega arith), inside 0xE000 0xFFFF x (omega arith) (omega arith))
-
-returns-5 : tie.Need-returns-5
-returns-5 c = let x = c .before .before .before .before .before .args .entry in rw (above 0x80 0xD7FF x (omega arith), above 0xE000 0xFFFF x (omega arith), below 0x20000 0x2FFFF x (omega arith))
-
-returns-6 : tie.Need-returns-6
-returns-6 c = let x = c .before .before .before .before .before .args .entry in rw (above 0x80 0xD7FF x (omega arith), above 0xE000 0xFFFF x (omega arith)) (up-to 0x20000 0x2FFFF x (omega arith))
+returns-3 c =
+    let x = c .before .before .before .args .entry in
+    let t : isMapped x ≡ false = sym (c .before .before .is-mapped .ensures) ∙ c .before .if1 .left in
+    rw t (up-to 0x20000 0x2FFFF x (omega arith))
 
 pub is-mapped-spec : {M : Type 1} → statement M
-is-mapped-spec = tie.close (tie.spec returns returns-2 returns-3 returns-4 returns-5 returns-6)
+is-mapped-spec = tie.close (tie.spec is-mapped-requires returns returns-2 returns-3)

@@ -1,6 +1,8 @@
 -- `looked_up` meets its contract. Assumes nothing.
 use mathlib.Core.Path.{_≡_, sym, _∙_}
 use mathlib.Core.Bool.{true, false}
+use Rattle.pairs.specs.Standard.{indexed, returned}
+use Rattle.pairs.specs.Events.{pointsAs, eventOf}
 use Rattle.big5_decoder.specs.Standard.{isMapped, entryOf}
 use borrow.Author.Needs.{needs}
 use Rattle.big5_decoder.proofs.looked_up.Statement.{statement}
@@ -13,7 +15,7 @@ is-mapped-requires : tie.Need-is-mapped-requires
 is-mapped-requires c κs = search needs
 
 returns : tie.Need-returns
-unfolding entryOf
+unfolding entryOf indexed returned eventOf pointsAs
 returns c =
     let e = c .before .before .entry .ensures in
     let t : isMapped (c .before .before .entry .result) ≡ true = sym (c .before .is-mapped .ensures) ∙ c .if1 .taken in
@@ -23,7 +25,7 @@ malformed-requires : tie.Need-malformed-requires
 malformed-requires c κs = search needs
 
 returns-2 : tie.Need-returns-2
-unfolding entryOf
+unfolding entryOf indexed
 returns-2 c =
     let e = c .before .before .before .entry .ensures in
     let t : isMapped (c .before .before .before .entry .result) ≡ false = sym (c .before .before .is-mapped .ensures) ∙ c .before .if1 .left in

@@ -1,8 +1,9 @@
 -- `is_mapped` meets its contract. Assumes nothing.
 use native.Mathlib.Omega.{arith}
-use Rattle.pairs.specs.Ranges.{inside, below, above, up-to}
-use Rattle.euckr_decoder.proofs.is_mapped.Statement.{statement}
-use Rattle.euckr_decoder.proofs.is_mapped.Tie as tie
+use borrow.Author.Tests.{le-leb}
+use Rattle.octets.specs.BetweenLaws.{inside, below, above}
+use Rattle.entries.proofs.is_mapped.Statement.{statement}
+use Rattle.entries.proofs.is_mapped.Tie as tie
 
 returns : tie.Need-returns
 returns c = let x = c .before .args .entry in rw (below 0x80 0xD7FF x (omega arith), below 0xE000 0xFFFF x (omega arith))
@@ -14,7 +15,7 @@ returns-3 : tie.Need-returns-3
 returns-3 c = let x = c .before .before .before .args .entry in rw (above 0x80 0xD7FF x (omega arith), below 0xE000 0xFFFF x (omega arith))
 
 returns-4 : tie.Need-returns-4
-returns-4 c = let x = c .before .before .before .args .entry in rw (above 0x80 0xD7FF x (omega arith)) (up-to 0xE000 0xFFFF x (omega arith))
+returns-4 c = let x = c .before .before .before .args .entry in rw (above 0x80 0xD7FF x (omega arith), le-leb 0xE000 x (omega arith))
 
 pub is-mapped-spec : {M : Type 1} → statement M
 is-mapped-spec = tie.close (tie.spec returns returns-2 returns-3 returns-4)

@@ -1,0 +1,30 @@
+// A lent index: an entry by its pointer, and which entries are code points.
+ghost use mathlib.Core.Path.{_≡_};
+ghost use lib.ListN.{getD};
+ghost use Rattle.entries.specs.Entries.{isMapped};
+
+// A lent entry, or 0 where there is none.
+pub fn entry(index: &[u32], at: usize) -> u32
+    ensures { λ r. ⌜ r ≡ getD (now (index .entry)) at 0 ⌝ }
+{
+    if at < index.len() {
+        return index[at];
+    }
+    0
+}
+
+// Whether an entry is a code point.
+pub fn is_mapped(entry: u32) -> bool
+    ensures { λ r. ⌜ r ≡ isMapped entry ⌝ }
+{
+    if entry < 0x80 {
+        return false;
+    }
+    if entry < 0xD800 {
+        return true;
+    }
+    if entry < 0xE000 {
+        return false;
+    }
+    entry <= 0xFFFF
+}
