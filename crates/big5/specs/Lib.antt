@@ -4,5 +4,5 @@ pub mod Ways
 pub mod Big5Laws
 pub mod HeldLaws
 pub mod HeadLaws
-pub mod CloseLaws
 pub mod Edges
+pub mod CloseLaws
