@@ -26,6 +26,13 @@ dropout = tt
 abbrev pub Outcome : Type 0 → Type 0
 Outcome S = Out Dropout S
 
+abbrev pub dropped : {S : Type 0} → Outcome S
+dropped = none dropout
+
+-- alive, with the score as it was
+abbrev pub alive : {D S : Type 0} → S → Out D S
+alive m = live m (pos 0)
+
 -- an outcome whose score is larger by k
 unfoldable pub plus : {D S : Type 0} → ℤ → Out D S → Out D S
 plus k (none d) = none d
