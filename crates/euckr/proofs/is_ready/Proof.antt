@@ -3,7 +3,7 @@ use mathlib.Core.Path.{_≡_, sym, _∙_}
 use mathlib.Core.Bool.{true, false}
 use borrow.Author.Needs.{needs}
 use borrow.Author.Tests.{le-leb, lt-leb}
-use Rattle.laws.specs.Limit.{limit, room}
+use Rattle.laws.specs.Limit.{room}
 use Rattle.euckr.specs.EucKr.{soundB, readyB}
 use Rattle.euckr.proofs.is_ready.Statement.{statement}
 use Rattle.euckr.proofs.is_ready.Tie as tie

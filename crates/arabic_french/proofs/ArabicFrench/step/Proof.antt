@@ -76,7 +76,7 @@ returns-2 c =
     let a = w .before in
     let s = a .before .before .before .before .before in
     let v = words-kept (w .words-after .result) (s .args .self .«current_word_len») (s .args .self .«longest_word») (a .is-non-latin-alphabetic .result) (omega (arith, s .pre .1 .word-most)) (w .words-after .ensures) in
-    (rw (read-sum q, c .before .after .ensures, c .is-ascii .ensures, v .0, v .1, a .is-non-latin-alphabetic .ensures, g .gain .ensures .0, q .gain2 .ensures .0, g .before .is-ascii-pair .ensures) (ap ran (sym (not255 (tables s) (s .args .b) _ (a .before .if1 .left)))), rw (read-sum q) (omega (arith, abs-add (pair q) (caseGain q), g .gain .ensures .1, q .gain2 .ensures .1)))
+    (rw (read-sum q, g .gain .ensures .0, q .gain2 .ensures .0, g .before .is-ascii-pair .ensures, c .before .after .ensures, c .is-ascii .ensures, v .0, v .1, a .is-non-latin-alphabetic .ensures) (ap ran (sym (not255 (tables s) (s .args .b) _ (a .before .if1 .left)))), rw (read-sum q) (omega (arith, abs-add (pair q) (caseGain q), g .gain .ensures .1, q .gain2 .ensures .1)))
 
 pub step-spec : {M : Type 1} → statement M
 step-spec =

@@ -2,6 +2,7 @@
 use mathlib.Core.Path.{_≡_, sym, _∙_}
 use mathlib.Core.Bool.{true, false}
 use borrow.Author.Tests.{eq-eqb, ne-eqb}
+use Rattle.laws.specs.Answer.{answeredIf}
 use Rattle.laws.specs.Limit.{room}
 use Rattle.euckr.specs.EucKr.{soundB, closedOf}
 use borrow.Author.Needs.{needs}
@@ -12,21 +13,21 @@ is-sound-for-requires : tie.Need-is-sound-for-requires
 is-sound-for-requires c κs = search needs
 
 returns : tie.Need-returns
-unfolding closedOf
+unfolding closedOf answeredIf
 returns c =
     let s = c .before .before .before .before in
     let t : soundB room (s .args .self) ≡ true = sym (c .before .before .before .is-sound-for .ensures) ∙ c .before .before .if1 .taken in
     rw (t, eq-eqb _ _ (c .if2 .taken))
 
 returns-2 : tie.Need-returns-2
-unfolding closedOf
+unfolding closedOf answeredIf
 returns-2 c =
     let s = c .before .before .before .before in
     let t : soundB room (s .args .self) ≡ true = sym (c .before .before .before .is-sound-for .ensures) ∙ c .before .before .if1 .taken in
     rw (t, ne-eqb _ _ (c .if2 .left))
 
 returns-3 : tie.Need-returns-3
-unfolding closedOf
+unfolding closedOf answeredIf
 returns-3 c =
     let s = c .before .before in
     let t : soundB room (s .args .self) ≡ false = sym (c .before .is-sound-for .ensures) ∙ c .if1 .left in
