@@ -12,7 +12,8 @@ use borrow.Author.Tests.{eq-eqb, ne-eqb, eqb-true, le-leb, lt-leb, leb-true, leb
 use Rattle.laws.specs.Lists.{any, isIn}
 use Rattle.lengths.specs.Lengths.{jisCount}
 use Rattle.laws.specs.Limit.{limit}
-use Rattle.laws.specs.Run.{Outcome, live, run, run-append}
+use Rattle.laws.specs.Answer.{if-fit, if-unfit, answeredIf}
+use Rattle.laws.specs.Run.{Outcome, live, run, run-append, alive}
 use Rattle.laws.specs.Still.{Ends, run-ends, run-stays}
 use Rattle.laws.specs.Tests.{both, neither, either}
 use Rattle.octets.specs.Octets.{between, nonAscii}
@@ -26,7 +27,7 @@ use Rattle.iso2022jp.specs.declared.Designated.the-variants.{To, Nothing
 use Rattle.iso2022jp.specs.declared.Iso2022Jp.{Iso2022Jp}
 use Rattle.iso2022jp.specs.declared.Ran.{Ran}
 use Rattle.iso2022jp.specs.declared.Ran.the-variants.{Unfit}
-use Rattle.iso2022jp.specs.Iso2022Jp.{Passes, holds, fresh, LeadIn, Sound, leadsEscape, leadInB, soundB, mapped, indexedBy, alive, escapeByte, putOut, isText, asciiOf, rangedOf, pairAt, trailOf, escapeStartOf, designated, stateOf, escapedTo, stepIn, stepOf, closeOf, ranAs, Ready, readyB, ranOf, closedOf}
+use Rattle.iso2022jp.specs.Iso2022Jp.{Passes, holds, fresh, LeadIn, Sound, leadsEscape, leadInB, soundB, mapped, indexedBy, escapeByte, putOut, isText, asciiOf, rangedOf, pairAt, trailOf, escapeStartOf, designated, stateOf, escapedTo, stepIn, stepOf, closeOf, ranAs, Ready, readyB, ranOf, closedOf}
 
 -- ---- an entry of the index, each way through the code
 module _ (entry : ℕ) where
@@ -117,11 +118,11 @@ true-lead TrailByte lead h = (between-low _ _ _ h, between-high _ _ _ h)
 true-lead EscapeStart lead h = eqb-true _ _ h
 true-lead Escape lead h = escape-lead lead h
 
-pub sound-true : (m : Iso2022Jp) → Sound m → soundB m ≡ true
-sound-true m h = lead-true (m .state) (m .lead) h
+pub true-sound : (m : Iso2022Jp) → Sound m → soundB m ≡ true
+true-sound m h = lead-true (m .state) (m .lead) h
 
-pub true-sound : (m : Iso2022Jp) → soundB m ≡ true → Sound m
-true-sound m h = true-lead (m .state) (m .lead) h
+pub sound-true : (m : Iso2022Jp) → soundB m ≡ true → Sound m
+sound-true m h = true-lead (m .state) (m .lead) h
 
 pub fresh-sound : Sound fresh
 fresh-sound = refl
@@ -180,10 +181,6 @@ module _ (index : List ℕ) where
   pub run-keeps : (m : Iso2022Jp) (s : ℤ) (xs : List ℕ) → Sound m → Ends Sound s (run (stepOf index) (live m s) xs)
   run-keeps m s xs h = run-ends (stepOf index) Sound (step-keeps index) s (live m s) xs (h, refl)
 
-  -- ---- joining, by the law of every machine
-  pub run-joins : (o : Outcome Iso2022Jp) (xs ys : List ℕ) → run (stepOf index) o (xs ++ ys) ≡ run (stepOf index) (run (stepOf index) o xs) ys
-  run-joins o xs ys = run-append (stepOf index) o xs ys
-
 -- ---- ASCII without escape, shift out and shift in leaves the record fresh
 abbrev pub stirs : ℕ → Bool
 stirs b = nonAscii b || isIn (0x0E ∷ 0x0F ∷ escapeByte ∷ []) b
@@ -200,25 +197,25 @@ ascii-stays index s xs e = run-stays (stepOf index) fresh stirs (λ (b : ℕ) (q
 
 -- ---- what a call gives
 module _ (index : List ℕ) (m : Iso2022Jp) (xs : List ℕ) where
-  pub ready-true : Ready index m xs → readyB index m xs ≡ true
+  pub true-ready : Ready index m xs → readyB index m xs ≡ true
   unfolding readyB
-  ready-true r = rw (sound-true m (r .sound), eq-eqb _ _ (r .sized), le-leb _ _ (r .short))
+  true-ready r = rw (true-sound m (r .sound), eq-eqb _ _ (r .sized), le-leb _ _ (r .short))
 
-  pub true-ready : readyB index m xs ≡ true → Ready index m xs
+  pub ready-true : readyB index m xs ≡ true → Ready index m xs
   unfolding readyB
-  true-ready e =
+  ready-true e =
       let p = both (soundB m) _ e in
       let q = both (eqb (length index) jisCount) _ (p .1) in
-      record { sound = true-sound m (p .0); sized = eqb-true _ _ (q .0); short = leb-true _ _ (q .1) }
+      record { sound = sound-true m (p .0); sized = eqb-true _ _ (q .0); short = leb-true _ _ (q .1) }
 
   -- a caller that tested
   pub ran-ready : Ready index m xs → ranOf index m xs ≡ ranAs (run (stepOf index) (alive m) xs)
   unfolding ranOf
-  ran-ready r = rw (ready-true r)
+  ran-ready r = if-fit _ _ _ _ _ (true-ready r)
 
-  pub ran-unfit : readyB index m xs ≡ false → Unfit ≡ ranOf index m xs
+  ran-unfit : readyB index m xs ≡ false → Unfit ≡ ranOf index m xs
   unfolding ranOf
-  ran-unfit e = rw e
+  ran-unfit e = sym (if-unfit _ _ _ _ _ e)
 
   -- each way through the code
   pub ran-unsound : soundB m ≡ false → Unfit ≡ ranOf index m xs
@@ -235,13 +232,13 @@ module _ (index : List ℕ) (m : Iso2022Jp) (xs : List ℕ) where
 
 pub closed-ready : (m : Iso2022Jp) → Sound m → closedOf m ≡ ranAs (closeOf m)
 unfolding closedOf
-closed-ready m h = rw (sound-true m h)
+closed-ready m h = if-fit _ _ _ _ _ (true-sound m h)
 
 module _ (m : Iso2022Jp) where
   pub closed-unsound : soundB m ≡ false → Unfit ≡ closedOf m
   unfolding closedOf
-  closed-unsound e = rw e
+  closed-unsound e = sym (if-unfit _ _ _ _ _ e)
 
   pub closed-is : (r : Ran) → soundB m ≡ true → r ≡ ranAs (closeOf m) → r ≡ closedOf m
-  unfolding closedOf
+  unfolding closedOf answeredIf
   closed-is r e q = rw (e, q)

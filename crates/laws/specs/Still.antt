@@ -58,10 +58,6 @@ module _ {D S : Type 0} (step : S → ℕ → Out D S) where
   unfolding run feed plus
   run-drops m d b bs e = rw e (run-none step d bs)
 
-  -- ---- for a loop: one turn at i
-  pub turn-still : (m n : S) (g : ℤ) (xs : List ℕ) (i : ℕ) → i < length xs → step m (getD xs i 0) ≡ live n g → g ≡ pos 0 → run step (live n (pos 0)) (drop (i + 1) xs) ≡ run step (live m (pos 0)) (drop i xs)
-  turn-still m n g xs i h e q = turn-live step m (pos 0) xs i h n (pos 0) (e ∙ ap (live n) q)
-
   -- ---- bytes that leave a record as it is
   pub run-stays : (m : S) (stirs : ℕ → Bool) → ((b : ℕ) → stirs b ≡ false → step m b ≡ live m (pos 0)) → (s : ℤ) (xs : List ℕ) → any stirs xs ≡ false → run step (live m s) xs ≡ live m s
   unfolding run feed plus any

@@ -9,11 +9,11 @@ use lib.Dec.{eqb}
 use borrow.Author.Tests.{ne-eqb, eqb-true, eqb-false}
 use Rattle.laws.specs.Tests.{either, through}
 use Rattle.laws.specs.Validator.{end-of-queue, byte, Result, continue, code-point, error, after, at-start, on, outcomeBy, decoded, decodes}
-use Rattle.laws.specs.Run.{run, ended}
+use Rattle.laws.specs.Run.{run, ended, alive, dropped}
 use Rattle.octets.specs.Octets.{between}
 use Rattle.utf8.specs.declared.Utf8.{Utf8}
 use Rattle.utf8.specs.Standard.{Decoder, variables, initial, handler, Reached}
-use Rattle.utf8.specs.Utf8.{needs, fresh, Sound, plain, after-E0, after-ED, after-F0, after-F4, alive, dropped, leadOf, trailOf, stepOf, closeOf}
+use Rattle.utf8.specs.Utf8.{needs, fresh, Sound, plain, after-E0, after-ED, after-F0, after-F4, leadOf, trailOf, stepOf, closeOf}
 use Rattle.utf8.specs.Utf8Laws.{cut-range, most-needed, fresh-sound}
 use Rattle.utf8.specs.Agreement.{recordOf, outcomeOf}
 

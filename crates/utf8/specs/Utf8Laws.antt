@@ -10,14 +10,15 @@ use lib.ListN.{length}
 use borrow.Author.Tests.{eq-eqb, ne-eqb, eqb-true, le-leb, lt-leb, leb-true, leb-false}
 use Rattle.laws.specs.Lists.{any}
 use Rattle.laws.specs.Limit.{limit}
-use Rattle.laws.specs.Run.{Outcome, live, run, run-append}
+use Rattle.laws.specs.Answer.{if-fit, if-unfit, answeredIf}
+use Rattle.laws.specs.Run.{Outcome, live, run, run-append, alive, dropped}
 use Rattle.laws.specs.Tests.{both, either}
 use Rattle.laws.specs.Still.{Lives, Ends, none-live, run-ends, run-stays}
 use Rattle.octets.specs.Octets.{between, nonAscii}
 use Rattle.octets.specs.BetweenLaws.{inside, below, above}
 use Rattle.utf8.specs.declared.Utf8.{Utf8}
 use Rattle.utf8.specs.declared.Ran.the-variants.{Live, Dropped, Unfit}
-use Rattle.utf8.specs.Utf8.{needs, fresh, Sound, plain, after-E0, after-ED, after-F0, after-F4, nextIn, nextCut, soundB, alive, dropped, leadOf, trailOf, stepOf, closeOf, ranAs, Ready, readyB, ranOf, closedOf}
+use Rattle.utf8.specs.Utf8.{needs, fresh, Sound, plain, after-E0, after-ED, after-F0, after-F4, nextIn, nextCut, soundB, leadOf, trailOf, stepOf, closeOf, ranAs, Ready, readyB, ranOf, closedOf}
 
 -- ---- each way through a byte that begins a sequence
 module _ (b : ℕ) where
@@ -96,17 +97,17 @@ module _ (m : Utf8) where
   sound-at false false true p q r h = cut-sound 3 0x90 0x8F (eqb-true _ _ r) after-F0 after-F4 h
   sound-at false false false p q r h = let z : _≡_ {A = ℕ} 0 1 = cc in absurd (omega arith)
 
-  pub true-sound : soundB m ≡ true → Sound m
+  pub sound-true : soundB m ≡ true → Sound m
   unfolding soundB
-  true-sound h = sound-at (nextIn m 0x80 0xBF) (eqb (m .need) 2) (eqb (m .need) 3) refl refl refl h
+  sound-true h = sound-at (nextIn m 0x80 0xBF) (eqb (m .need) 2) (eqb (m .need) 3) refl refl refl h
 
-pub sound-true : (m : Utf8) → Sound m → soundB m ≡ true
+pub true-sound : (m : Utf8) → Sound m → soundB m ≡ true
 unfolding soundB nextIn nextCut
-sound-true m (plain {n} h) = le-leb n 3 h
-sound-true m after-E0 = refl
-sound-true m after-ED = refl
-sound-true m after-F0 = refl
-sound-true m after-F4 = refl
+true-sound m (plain {n} h) = le-leb n 3 h
+true-sound m after-E0 = refl
+true-sound m after-ED = refl
+true-sound m after-F0 = refl
+true-sound m after-F4 = refl
 
 -- ---- a step keeps it, and changes no score
 -- after a lead that cuts the next byte's range at one end, or at none
@@ -155,10 +156,6 @@ step-live m n b s h e = rw e at (step-keeps m b h)
 pub run-keeps : (m : Utf8) (s : ℤ) (xs : List ℕ) → Sound m → Ends Sound s (run stepOf (live m s) xs)
 run-keeps m s xs h = run-ends stepOf Sound step-keeps s (live m s) xs (h, refl)
 
--- ---- joining, by the law of every machine
-pub run-joins : (o : Outcome Utf8) (xs ys : List ℕ) → run stepOf o (xs ++ ys) ≡ run stepOf (run stepOf o xs) ys
-run-joins o xs ys = run-append stepOf o xs ys
-
 -- ---- ASCII leaves the record fresh
 pub ascii-stays : (s : ℤ) (xs : List ℕ) → any nonAscii xs ≡ false → run stepOf (live fresh s) xs ≡ live fresh s
 unfolding stepOf
@@ -175,22 +172,22 @@ close-whole m l = close-at m (eqb (m .need) 0) refl l
 
 -- ---- what a call gives
 module _ (m : Utf8) (xs : List ℕ) where
-  pub ready-true : Ready m xs → readyB m xs ≡ true
+  pub true-ready : Ready m xs → readyB m xs ≡ true
   unfolding readyB
-  ready-true r = rw (sound-true m (r .sound), le-leb _ _ (r .short))
+  true-ready r = rw (true-sound m (r .sound), le-leb _ _ (r .short))
 
-  pub true-ready : readyB m xs ≡ true → Ready m xs
+  pub ready-true : readyB m xs ≡ true → Ready m xs
   unfolding readyB
-  true-ready e = let q = both (soundB m) (leb (length xs) limit) e in record { sound = true-sound m (q .0); short = leb-true _ _ (q .1) }
+  ready-true e = let q = both (soundB m) (leb (length xs) limit) e in record { sound = sound-true m (q .0); short = leb-true _ _ (q .1) }
 
   -- a caller that tested
   pub ran-ready : Ready m xs → ranOf m xs ≡ ranAs (run stepOf (alive m) xs)
   unfolding ranOf
-  ran-ready r = rw (ready-true r)
+  ran-ready r = if-fit _ _ _ _ _ (true-ready r)
 
-  pub ran-unfit : readyB m xs ≡ false → Unfit ≡ ranOf m xs
+  ran-unfit : readyB m xs ≡ false → Unfit ≡ ranOf m xs
   unfolding ranOf
-  ran-unfit e = rw e
+  ran-unfit e = sym (if-unfit _ _ _ _ _ e)
 
   -- each way through the code
   pub ran-unsound : soundB m ≡ false → Unfit ≡ ranOf m xs
@@ -204,16 +201,16 @@ module _ (m : Utf8) (xs : List ℕ) where
 module _ (m : Utf8) where
   pub closed-ready : Sound m → closedOf m ≡ ranAs (closeOf m)
   unfolding closedOf
-  closed-ready h = rw (sound-true m h)
+  closed-ready h = if-fit _ _ _ _ _ (true-sound m h)
 
   pub closed-whole : soundB m ≡ true → m .need ≡ 0 → Live m ≡ closedOf m
-  unfolding closedOf closeOf ranAs
+  unfolding closedOf closeOf answeredIf
   closed-whole e h = rw (e, eq-eqb _ _ h)
 
   pub closed-cut : soundB m ≡ true → (m .need ≡ 0 → ⊥) → Dropped ≡ closedOf m
-  unfolding closedOf closeOf ranAs
+  unfolding closedOf closeOf answeredIf
   closed-cut e h = rw (e, ne-eqb _ _ h)
 
   pub closed-unsound : soundB m ≡ false → Unfit ≡ closedOf m
   unfolding closedOf
-  closed-unsound e = rw e
+  closed-unsound e = sym (if-unfit _ _ _ _ _ e)
