@@ -105,8 +105,8 @@ module _ (w : Scale) (m : EucKr) where
   hangul-word : (extras : List ℤ) (u b : ℕ) → hangulOf w m extras u b .word ≡ m .«current_word_len» + 1
   unfolding hangulOf innerOf outerOf
   hangul-word extras u b =
-      picked (λ s. s .word ≡ (m .«current_word_len» + 1)) (m .«prev_was_euc_range» && isEuc b) refl
-      (picked (λ s. s .word ≡ (m .«current_word_len» + 1)) (holdsOf m) refl refl)
+      picked (λ (s : Scored). s .word ≡ (m .«current_word_len» + 1)) (m .«prev_was_euc_range» && isEuc b) refl
+      (picked (λ (s : Scored). s .word ≡ (m .«current_word_len» + 1)) (holdsOf m) refl refl)
 
 -- ---- a pair of bytes that is a Hangul
 unit-hangul : (w : Scale) (extras : List ℤ) (m : EucKr) (u b : ℕ) → isHangul u ≡ true → unitOf w extras m u b ≡ hangulOf w m extras u b

@@ -25,7 +25,7 @@ use Rattle.lengths.specs.Lengths.{weightCount, eucKrCount, extraCount}
 use Rattle.euckr_decoder.specs.Standard.{pairOf, decodeOf}
 use Rattle.euckr.specs.Scoring.{scaleOf, extraOf, isEuc, isHangul, isHanja, scored, holdsOf, letterOf, innerOf, outerOf, hangulOf, hanjaOf, otherOf, unitOf, isUserPair, isMacSymbol, isLone, extends, extensionOf, after, strayOf, errorOf, onEvent, Lent, lent, stepOf}
 use Rattle.euckr.specs.EucKr.{Sound, soundB, SmallScale, Slight, ranAs, readyB, Ready, ranOf, closeOf, closedOf}
-use Rattle.euckr.specs.Ways.{letter-small, hangul-small, hanja-small, other-small}
+use Rattle.euckr.specs.Ways.{FewTerms, letter-small, hangul-small, hanja-small, other-small}
 use Rattle.euckr.specs.declared.EucKr.{EucKr}
 use Rattle.euckr.specs.declared.LatinKorean.{LatinKorean}
 use Rattle.euckr.specs.declared.LatinKorean.the-variants.{AsciiLetter, Hangul, Hanja, Other}
@@ -139,12 +139,12 @@ module _ (w : Scale) (small : SmallScale w) (n : ℕ) (m : EucKr) (most : m .«c
 
 -- ---- a byte adds at most five terms
 module _ (w : Scale) (small : SmallScale w) (m : EucKr) (held : SmallHeld (m .held)) where
-  extension-small : (b : ℕ) → natAbs (extensionOf w b .gain) ≤ perByte
+  extension-small : (b : ℕ) → FewTerms (extensionOf w b)
   unfolding extensionOf
   extension-small b =
       let e = w .extension in
-      picked (λ s. natAbs (s .gain) ≤ perByte) (isLone b) (omega (arith, abs-add e e, small .extension))
-      (picked (λ s. natAbs (s .gain) ≤ perByte) (letter b) (omega (arith, small .extension)) (omega (arith, small .extension)))
+      picked FewTerms (isLone b) (omega (arith, abs-add e e, small .extension))
+      (picked FewTerms (letter b) (omega (arith, small .extension)) (omega (arith, small .extension)))
 
   pub error-slight : (lead b k : ℕ) → Slight (errorOf w m lead b k)
   unfolding errorOf strayOf
@@ -155,13 +155,13 @@ module _ (w : Scale) (small : SmallScale w) (m : EucKr) (held : SmallHeld (m .he
       (picked Slight (eqb k 1 && isLone b) (omega (arith, small .extension)) tt)))
 
   module _ (extras : List ℤ) (slight : (u : ℕ) → natAbs (extraOf extras u) ≤ term) where
-    unit-small : (u b : ℕ) → natAbs (unitOf w extras m u b .gain) ≤ perByte
+    unit-small : (u b : ℕ) → FewTerms (unitOf w extras m u b)
     unfolding unitOf
     unit-small u b =
-        picked (λ s. natAbs (s .gain) ≤ perByte) (letter u) (letter-small w small m held)
-        (picked (λ s. natAbs (s .gain) ≤ perByte) (isHangul u) (hangul-small w small m held extras u b (slight u))
-        (picked (λ s. natAbs (s .gain) ≤ perByte) (isHanja u) (hanja-small w small m held (w .hanja) (small .hanja))
-        (picked (λ s. natAbs (s .gain) ≤ perByte) (ascii u) (omega arith) (other-small w small m held (w .other) (small .other)))))
+        picked FewTerms (letter u) (letter-small w small m held)
+        (picked FewTerms (isHangul u) (hangul-small w small m held extras u b (slight u))
+        (picked FewTerms (isHanja u) (hanja-small w small m held (w .hanja) (small .hanja))
+        (picked FewTerms (ascii u) (omega arith) (other-small w small m held (w .other) (small .other)))))
 
     event-slight : (lead b : ℕ) (e : Event) → Slight (onEvent w m extras lead b e)
     event-slight lead b Pending = omega arith

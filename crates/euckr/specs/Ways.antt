@@ -25,8 +25,13 @@ use Rattle.euckr.specs.declared.EucKr.{EucKr}
 use Rattle.euckr.specs.declared.LatinKorean.{LatinKorean}
 use Rattle.euckr.specs.declared.LatinKorean.the-variants.{AsciiLetter, Hangul, Hanja, Other}
 use Rattle.euckr.specs.declared.Scale.{Scale}
+use Rattle.euckr.specs.declared.Scored.{Scored}
 
 -- ---- sizes
+-- the score changes by at most five terms
+abbrev pub FewTerms : Scored → Type 0
+FewTerms s = natAbs (s .gain) ≤ perByte
+
 module _ (w : Scale) (small : SmallScale w) where
   hangul-after-small : (k : LatinKorean) → natAbs (hangulAfter w k) ≤ term
   hangul-after-small AsciiLetter = small .adjacency
@@ -88,7 +93,7 @@ module _ (w : Scale) (small : SmallScale w) where
       pub inner-read : kept (kept (kept (aroundOf w m) +ℤ kept (w .hangul)) +ℤ kept extra) ≡ aroundOf w m +ℤ w .hangul +ℤ extra
       inner-read = sum3-read (aroundOf w m) (w .hangul) extra (term + term + term) term term around-small (small .hangul) little (omega arith)
 
-      pub inner-small : natAbs (innerOf w m extra .gain) ≤ perByte
+      pub inner-small : FewTerms (innerOf w m extra)
       unfolding innerOf
       inner-small = omega (arith, sum3-small (aroundOf w m) (w .hangul) extra (term + term + term) term term around-small (small .hangul) little (omega arith))
 
@@ -98,14 +103,14 @@ module _ (w : Scale) (small : SmallScale w) where
     pub outer-read : kept (kept (aroundOf w m) +ℤ kept (w .outer)) ≡ aroundOf w m +ℤ w .outer
     outer-read = sum-read (aroundOf w m) (w .outer) (term + term + term) term around-small (small .outer) (omega arith)
 
-    pub outer-small : natAbs (outerOf w m .gain) ≤ perByte
+    pub outer-small : FewTerms (outerOf w m)
     unfolding outerOf
     outer-small =
-        picked (λ s. natAbs (s .gain) ≤ perByte) (holdsOf m) (omega (arith, around-small)) (omega (arith, sum-small (aroundOf w m) (w .outer) (term + term + term) term around-small (small .outer) (omega arith)))
+        picked FewTerms (holdsOf m) (omega (arith, around-small)) (omega (arith, sum-small (aroundOf w m) (w .outer) (term + term + term) term around-small (small .outer) (omega arith)))
 
-    pub hangul-small : (extras : List ℤ) (u x : ℕ) → natAbs (extraOf extras u) ≤ term → natAbs (hangulOf w m extras u x .gain) ≤ perByte
+    pub hangul-small : (extras : List ℤ) (u x : ℕ) → natAbs (extraOf extras u) ≤ term → FewTerms (hangulOf w m extras u x)
     unfolding hangulOf
-    hangul-small extras u x h = picked (λ s. natAbs (s .gain) ≤ perByte) (m .«prev_was_euc_range» && isEuc x) (inner-small (extraOf extras u) h) outer-small
+    hangul-small extras u x h = picked FewTerms (m .«prev_was_euc_range» && isEuc x) (inner-small (extraOf extras u) h) outer-small
 
     module _ (own : ℤ) (little : natAbs own ≤ term) where
       pub hanja-part : SFits w64 (kept a +ℤ kept own)
@@ -120,15 +125,15 @@ module _ (w : Scale) (small : SmallScale w) where
       pub hanja-read : kept (kept (kept (kept a +ℤ kept own) +ℤ kept d) +ℤ kept c) ≡ a +ℤ own +ℤ d +ℤ c
       hanja-read = sum4-read a own d term term term held little (hanja-after-small (m .prev)) (omega arith) c term (long-small (m .«current_word_len» + 1)) (omega arith)
 
-      pub hanja-small : natAbs (hanjaOf w m own .gain) ≤ perByte
+      pub hanja-small : FewTerms (hanjaOf w m own)
       unfolding hanjaOf
       hanja-small = omega (arith, sum4-small a own d term term term held little (hanja-after-small (m .prev)) (omega arith) c term (long-small (m .«current_word_len» + 1)) (omega arith))
 
-      pub other-small : natAbs (otherOf m own .gain) ≤ perByte
+      pub other-small : FewTerms (otherOf m own)
       unfolding otherOf
       other-small = omega (arith, sum-small a own term term held little (omega arith))
 
-    pub letter-small : natAbs (letterOf w m .gain) ≤ perByte
+    pub letter-small : FewTerms (letterOf w m)
     unfolding letterOf
     letter-small = omega (arith, letter-after-small (m .prev))
 

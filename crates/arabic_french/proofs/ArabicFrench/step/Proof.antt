@@ -14,6 +14,9 @@ use borrow.Author.Needs.{needs}
 use Rattle.arabic_french.proofs.ArabicFrench.step.Statement.{statement}
 use Rattle.arabic_french.proofs.ArabicFrench.step.Tie as tie
 
+sums : {a b x y : ℤ} → a ≡ x → b ≡ y → a +ℤ b ≡ x +ℤ y
+sums p q = rw (p, q)
+
 -- the two terms, and their sum, as the code reads them
 module _ (c : tie.After-gain2) where
   abbrev pair : ℤ
@@ -76,7 +79,9 @@ returns-2 c =
     let a = w .before in
     let s = a .before .before .before .before .before in
     let v = words-kept (w .words-after .result) (s .args .self .«current_word_len») (s .args .self .«longest_word») (a .is-non-latin-alphabetic .result) (omega (arith, s .pre .1 .word-most)) (w .words-after .ensures) in
-    (rw (read-sum q, g .gain .ensures .0, q .gain2 .ensures .0, g .before .is-ascii-pair .ensures, c .before .after .ensures, c .is-ascii .ensures, v .0, v .1, a .is-non-latin-alphabetic .ensures) (ap ran (sym (not255 (tables s) (s .args .b) _ (a .before .if1 .left)))), rw (read-sum q) (omega (arith, abs-add (pair q) (caseGain q), g .gain .ensures .1, q .gain2 .ensures .1)))
+    let p = rw (g .before .is-ascii-pair .ensures) at (g .gain .ensures .0) in
+    let k = rw (g .before .is-ascii-pair .ensures) at (q .gain2 .ensures .0) in
+    (rw (read-sum q, sums p k, c .before .after .ensures, c .is-ascii .ensures, v .0, v .1, a .is-non-latin-alphabetic .ensures) (ap ran (sym (not255 (tables s) (s .args .b) _ (a .before .if1 .left)))), rw (read-sum q) (omega (arith, abs-add (pair q) (caseGain q), g .gain .ensures .1, q .gain2 .ensures .1)))
 
 pub step-spec : {M : Type 1} → statement M
 step-spec =
