@@ -6,7 +6,7 @@ use Prim.Native.Nat.{ℕ, _≤_}
 use lib.Dec.{leb, eqb}
 use lib.IntN.{ℤ, natAbs}
 use lib.ListN.{length}
-use Rattle.laws.specs.Answer.{Answer, ran, unfit, answered, answeredIf, WhenLive, SmallBy}
+use Rattle.laws.specs.Answer.{Answer, ran, unfit, answered, answeredIf, Told, SmallBy}
 use Rattle.laws.specs.Run.{Outcome, live, alive, dropped, run}
 use Rattle.pairs.specs.Pairs.{isLeadOrNone, releasedOf, smallHeldB}
 use Rattle.laws.specs.Limit.{limit}
@@ -57,7 +57,7 @@ Small c r = SmallBy c (answerOf r)
 
 -- a live answer came of weights of 32 bits
 abbrev pub Weighed : List ℤ → Ran → Type 0
-Weighed weights r = WhenLive (λ m s. SmallScale (scaleOf weights)) (answerOf r)
+Weighed weights r = Told (λ m s. SmallScale (scaleOf weights)) (answerOf r)
 
 -- ---- a run and a close
 -- the record is one that Big5 can hold, the part no longer than a stream, the lent lengths exact

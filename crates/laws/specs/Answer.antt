@@ -1,11 +1,11 @@
 -- What a machine answers to a public call: the outcome of what it was asked to run, or that it was not fit to be run. The code of
 -- each machine has an enum of its own for this, here R, with three cases. Assumes nothing.
-use mathlib.Core.Path.{_≡_, refl}
+use mathlib.Core.Path.{_≡_}
 use mathlib.Core.Bool.{Bool, true, false, cond}
 use Prim.Native.Nat.{ℕ, _≤_}
 use native.Mathlib.Omega.{arith}
 use lib.IntN.{ℤ, natAbs}
-use Rattle.laws.specs.Run.{Outcome, none, live}
+use Rattle.laws.specs.Run.{Outcome, none, live, WhenLive}
 
 pub data Answer (S : Type 0) : Type 0 where
   ran : Outcome S → Answer S
@@ -31,19 +31,18 @@ module _ {S R : Type 0} (alive : S → ℤ → R) (gone refused : R) (fit : Bool
 
 -- ---- from the enum, read as an answer
 -- what holds of the record and of the change of the score, where the answer is live
-abbrev pub WhenLive : {S : Type 0} → (S → ℤ → Type 0) → Answer S → Type 0
-WhenLive P (ran (none d)) = Unit {0}
-WhenLive P (ran (live m s)) = P m s
-WhenLive P unfit = Unit {0}
+abbrev pub Told : {S : Type 0} → (S → ℤ → Type 0) → Answer S → Type 0
+Told P (ran o) = WhenLive P o
+Told P unfit = Unit {0}
 
-pub when-live : {S : Type 0} {P : S → ℤ → Type 0} → ((m : S) (s : ℤ) → P m s) → (a : Answer S) → WhenLive P a
-when-live h (ran (none d)) = tt
-when-live h (ran (live m s)) = h m s
-when-live h unfit = tt
+pub told : {S : Type 0} {P : S → ℤ → Type 0} → ((m : S) (s : ℤ) → P m s) → (a : Answer S) → Told P a
+told h (ran (none d)) = tt
+told h (ran (live m s)) = h m s
+told h unfit = tt
 
 -- the score changes by at most c
 abbrev pub SmallBy : {S : Type 0} → ℕ → Answer S → Type 0
-SmallBy c a = WhenLive (λ m s. natAbs s ≤ c) a
+SmallBy c a = Told (λ m s. natAbs s ≤ c) a
 
 -- an answer that is an outcome's, and one that can't be
 pub ran-is : {S : Type 0} {a : Answer S} {o p : Outcome S} → a ≡ ran o → a ≡ ran p → o ≡ p

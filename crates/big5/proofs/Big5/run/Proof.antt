@@ -2,7 +2,7 @@
 use mathlib.Core.Path.{_≡_, sym, _∙_}
 use mathlib.Core.Bool.{true}
 use borrow.Author.Needs.{needs}
-use Rattle.laws.specs.Answer.{when-live}
+use Rattle.laws.specs.Answer.{told}
 use Rattle.laws.specs.Run.{alive, run}
 use Rattle.big5.specs.Scoring.{scaleOf, lent, stepOf}
 use Rattle.big5.specs.Big5.{Ready, answerOf, ranAs}
@@ -32,7 +32,7 @@ returns c =
     let s = c .before .before .before .before .before .before in
     let r = ready (c .before .before .before) (c .before .before .if1 .taken) in
     let e : c .feed .result ≡ ranAs (run (stepOf (lent (s .args .index .now) (scaleOf (s .args .weights .now)))) (alive (s .args .self)) (s .args .part .now)) = rw (c .before .read .ensures .0) at (c .feed .ensures .0) in
-    (e ∙ sym (ran-ready (s .args .index .now) (s .args .weights .now) (s .args .self) (s .args .part .now) r), (c .feed .ensures .1, when-live (λ m g. (rw (c .before .read .ensures .0) at (c .before .read .ensures .1))) (answerOf (c .feed .result))))
+    (e ∙ sym (ran-ready (s .args .index .now) (s .args .weights .now) (s .args .self) (s .args .part .now) r), (c .feed .ensures .1, told (λ m g. (rw (c .before .read .ensures .0) at (c .before .read .ensures .1))) (answerOf (c .feed .result))))
 
 returns-2 : tie.Need-returns-2
 returns-2 c =
