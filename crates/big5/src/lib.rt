@@ -424,11 +424,8 @@ impl Big5 {
     pub fn is_sound_for(self, bytes: u64) -> bool
         ensures { λ r. ⌜ r ≡ soundB bytes self ⌝ }
     {
-        if pairs::is_lead_or_none(self.lead) {
-            let held = self.held;
-            return held.is_small();
-        }
-        false
+        let held = self.held;
+        pairs::is_lead_or_none(self.lead) && held.is_small()
     }
 
     pub fn run(self, part: &[u8], index: &[u32], weights: &[i32]) -> Ran
@@ -460,12 +457,7 @@ impl Big5 {
 fn is_ready(m: Big5, part: &[u8], index: &[u32], weights: &[i32]) -> bool
     ensures { λ r. ⌜ r ≡ readyB (now (index .entry)) (now (weights .entry)) m (now (part .entry)) ⌝ }
 {
-    if m.is_sound_for(lengths::LIMIT) {
-        if part.len() <= lengths::MOST {
-            if index.len() == lengths::BIG5 {
-                return weights.len() == lengths::WEIGHTS;
-            }
-        }
-    }
-    false
+    m.is_sound_for(lengths::LIMIT)
+        && (part.len() <= lengths::MOST
+            && (index.len() == lengths::BIG5 && weights.len() == lengths::WEIGHTS))
 }

@@ -557,13 +557,8 @@ impl EucKr {
     pub fn is_sound_for(self, bytes: u64) -> bool
         ensures { λ r. ⌜ r ≡ soundB bytes self ⌝ }
     {
-        if pairs::is_lead_or_none(self.lead) {
-            if self.current_word_len <= bytes {
-                let held = self.held;
-                return held.is_small();
-            }
-        }
-        false
+        let held = self.held;
+        pairs::is_lead_or_none(self.lead) && (self.current_word_len <= bytes && held.is_small())
     }
 
     pub fn run(self, part: &[u8], index: &[u32], extras: &[i16], weights: &[i32]) -> Ran
@@ -595,22 +590,14 @@ impl EucKr {
 fn is_lent(index: &[u32], extras: &[i16], weights: &[i32]) -> bool
     ensures { λ r. ⌜ r ≡ lentB (now (index .entry)) (now (extras .entry)) (now (weights .entry)) ⌝ }
 {
-    if index.len() == lengths::EUC_KR {
-        if extras.len() == lengths::EXTRAS {
-            return weights.len() == lengths::WEIGHTS;
-        }
-    }
-    false
+    index.len() == lengths::EUC_KR
+        && (extras.len() == lengths::EXTRAS && weights.len() == lengths::WEIGHTS)
 }
 
 // Whether all is in order for a run.
 fn is_ready(m: EucKr, part: &[u8], index: &[u32], extras: &[i16], weights: &[i32]) -> bool
     ensures { λ r. ⌜ r ≡ readyB (now (index .entry)) (now (extras .entry)) (now (weights .entry)) m (now (part .entry)) ⌝ }
 {
-    if m.is_sound_for(lengths::ROOM) {
-        if part.len() <= lengths::MOST {
-            return is_lent(index, extras, weights);
-        }
-    }
-    false
+    m.is_sound_for(lengths::ROOM)
+        && (part.len() <= lengths::MOST && is_lent(index, extras, weights))
 }

@@ -121,10 +121,8 @@ impl Logical {
     pub fn is_sound_for(self, n: u64) -> bool
         ensures { λ r. ⌜ r ≡ soundB n self ⌝ }
     {
-        if self.plausible_punctuation <= n {
-            return single::is_common(n, self.prev, self.current_word_len, self.longest_word);
-        }
-        false
+        self.plausible_punctuation <= n
+            && single::is_common(n, self.prev, self.current_word_len, self.longest_word)
     }
 
     // A part of a chunk, byte after byte.
