@@ -1,6 +1,6 @@
 -- Laws of the Big5 machine: what a record holds is kept, a byte adds at most five terms, the tests decide. Assumes nothing.
 use mathlib.Core.Path.{_≡_}
-use mathlib.Core.Bool.{true, false, _&&_}
+use mathlib.Core.Bool.{true, _&&_}
 use mathlib.Core.List.{List}
 use Prim.Native.Nat.{ℕ, _+_, _≤_}
 use native.Mathlib.Omega.{arith}
@@ -9,7 +9,7 @@ use lib.IntN.{ℤ, pos, natAbs, _+ℤ_}
 use lib.ListN.{length}
 use borrow.Author.Tests.{leb-true, le-leb, eqb-true, eq-eqb}
 use Rattle.laws.specs.Tests.{both, picked}
-use Rattle.laws.specs.Answer.{if-fit, if-unfit}
+use Rattle.laws.specs.Answer.{if-fit}
 use Rattle.laws.specs.Run.{live, run, Within, alive}
 use Rattle.laws.specs.Sizes.{abs-add}
 use Rattle.octets.specs.Octets.{ascii, letter}
@@ -28,7 +28,6 @@ use Rattle.big5.specs.Ways.{beside-small, hanzi-small}
 use Rattle.big5.specs.declared.Big5.{Big5}
 use Rattle.big5.specs.declared.LatinCj.{LatinCj}
 use Rattle.big5.specs.declared.LatinCj.the-variants.{AsciiLetter, Cj, Other}
-use Rattle.big5.specs.declared.Ran.the-variants.{Unfit}
 use Rattle.big5.specs.declared.Scale.{Scale}
 use Rattle.big5.specs.declared.Scored.{Scored}
 
@@ -62,10 +61,6 @@ module _ (index : List ℕ) (weights : List ℤ) (m : Big5) (xs : List ℕ) wher
   pub ran-ready : Ready index weights m xs → ranOf index weights m xs ≡ ranAs (run (stepOf (lent index (scaleOf weights))) (alive m) xs)
   unfolding ranOf
   ran-ready r = if-fit _ _ _ _ _ (true-ready r)
-
-  pub ran-unfit : readyB index weights m xs ≡ false → ranOf index weights m xs ≡ Unfit
-  unfolding ranOf
-  ran-unfit e = if-unfit _ _ _ _ _ e
 
 pub closed-ready : (m : Big5) → Sound limit m → closedOf m ≡ ranAs (closeOf m)
 unfolding closedOf

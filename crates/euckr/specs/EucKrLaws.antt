@@ -1,6 +1,6 @@
 -- Laws of the EUC-KR machine: what a record holds is kept, a byte adds at most five terms, the tests decide. Assumes nothing.
 use mathlib.Core.Path.{_≡_}
-use mathlib.Core.Bool.{true, false, _&&_}
+use mathlib.Core.Bool.{true, _&&_}
 use mathlib.Core.List.{List}
 use Prim.Native.Nat.{ℕ, _+_, _≤_}
 use native.Mathlib.Omega.{arith}
@@ -9,7 +9,7 @@ use lib.IntN.{ℤ, pos, natAbs}
 use lib.ListN.{length}
 use borrow.Author.Tests.{leb-true, le-leb, eqb-true, eq-eqb}
 use Rattle.laws.specs.Tests.{both, picked}
-use Rattle.laws.specs.Answer.{if-fit, if-unfit}
+use Rattle.laws.specs.Answer.{if-fit}
 use Rattle.laws.specs.Carried.{Holds}
 use Rattle.laws.specs.Run.{Outcome, none, live, run, Within, alive}
 use Rattle.laws.specs.Sizes.{abs-add}
@@ -29,7 +29,6 @@ use Rattle.euckr.specs.Ways.{FewTerms, letter-small, hangul-small, hanja
 use Rattle.euckr.specs.declared.EucKr.{EucKr}
 use Rattle.euckr.specs.declared.LatinKorean.{LatinKorean}
 use Rattle.euckr.specs.declared.LatinKorean.the-variants.{AsciiLetter, Hangul, Hanja, Other}
-use Rattle.euckr.specs.declared.Ran.the-variants.{Unfit}
 use Rattle.euckr.specs.declared.Scale.{Scale}
 use Rattle.euckr.specs.declared.Scored.{Scored}
 
@@ -66,10 +65,6 @@ module _ (index : List ℕ) (extras weights : List ℤ) (m : EucKr) (xs : List �
   pub ran-ready : Ready index extras weights m xs → ranOf index extras weights m xs ≡ ranAs (run (stepOf (lent index extras (scaleOf weights))) (alive m) xs)
   unfolding ranOf
   ran-ready r = if-fit _ _ _ _ _ (true-ready r)
-
-  pub ran-unfit : readyB index extras weights m xs ≡ false → ranOf index extras weights m xs ≡ Unfit
-  unfolding ranOf
-  ran-unfit e = if-unfit _ _ _ _ _ e
 
 pub closed-ready : (m : EucKr) → Sound room m → closedOf m ≡ ranAs (closeOf m)
 unfolding closedOf

@@ -1,23 +1,22 @@
 -- What holds of the UTF-8 machine's definitions, and each way through the code. Assumes nothing.
 use mathlib.Core.Path.{_≡_, refl, sym, subst, _∙_}
-use mathlib.Core.Bool.{Bool, true, false, cond, _||_, and-false}
-use mathlib.Core.List.{List, _++_}
+use mathlib.Core.Bool.{Bool, true, false, cond, _||_}
+use mathlib.Core.List.{List}
 use Prim.Native.Nat.{ℕ, _-_, _<_, _≤_}
 use native.Mathlib.Omega.{arith}
 use lib.Dec.{eqb, leb}
 use lib.IntN.{ℤ, pos}
 use lib.ListN.{length}
-use borrow.Author.Tests.{eq-eqb, ne-eqb, eqb-true, le-leb, lt-leb, leb-true, leb-false}
+use borrow.Author.Tests.{eq-eqb, ne-eqb, eqb-true, le-leb, leb-true, leb-false}
 use Rattle.laws.specs.Lists.{any}
 use Rattle.laws.specs.Limit.{limit}
-use Rattle.laws.specs.Answer.{if-fit, if-unfit, answeredIf}
-use Rattle.laws.specs.Run.{Outcome, live, run, run-append, alive, dropped}
+use Rattle.laws.specs.Answer.{if-fit}
+use Rattle.laws.specs.Run.{Outcome, live, run, alive, dropped}
 use Rattle.laws.specs.Tests.{both, either}
 use Rattle.laws.specs.Still.{Lives, Ends, none-live, run-ends, run-stays}
 use Rattle.octets.specs.Octets.{between, nonAscii}
 use Rattle.octets.specs.BetweenLaws.{inside, below, above}
 use Rattle.utf8.specs.declared.Utf8.{Utf8}
-use Rattle.utf8.specs.declared.Ran.the-variants.{Live, Dropped, Unfit}
 use Rattle.utf8.specs.Utf8.{needs, fresh, Sound, plain, after-E0, after-ED, after-F0, after-F4, nextIn, nextCut, soundB, leadOf, trailOf, stepOf, closeOf, ranAs, Ready, readyB, ranOf, closedOf}
 
 -- ---- each way through a byte that begins a sequence
@@ -185,32 +184,6 @@ module _ (m : Utf8) (xs : List ℕ) where
   unfolding ranOf
   ran-ready r = if-fit _ _ _ _ _ (true-ready r)
 
-  ran-unfit : readyB m xs ≡ false → Unfit ≡ ranOf m xs
-  unfolding ranOf
-  ran-unfit e = sym (if-unfit _ _ _ _ _ e)
-
-  -- each way through the code
-  pub ran-unsound : soundB m ≡ false → Unfit ≡ ranOf m xs
-  unfolding readyB
-  ran-unsound e = ran-unfit (rw e)
-
-  pub ran-long : limit < length xs → Unfit ≡ ranOf m xs
-  unfolding readyB
-  ran-long h = ran-unfit (rw (lt-leb _ _ h, and-false))
-
-module _ (m : Utf8) where
-  pub closed-ready : Sound m → closedOf m ≡ ranAs (closeOf m)
-  unfolding closedOf
-  closed-ready h = if-fit _ _ _ _ _ (true-sound m h)
-
-  pub closed-whole : soundB m ≡ true → m .need ≡ 0 → Live m ≡ closedOf m
-  unfolding closedOf closeOf answeredIf
-  closed-whole e h = rw (e, eq-eqb _ _ h)
-
-  pub closed-cut : soundB m ≡ true → (m .need ≡ 0 → ⊥) → Dropped ≡ closedOf m
-  unfolding closedOf closeOf answeredIf
-  closed-cut e h = rw (e, ne-eqb _ _ h)
-
-  pub closed-unsound : soundB m ≡ false → Unfit ≡ closedOf m
-  unfolding closedOf
-  closed-unsound e = sym (if-unfit _ _ _ _ _ e)
+pub closed-ready : (m : Utf8) → Sound m → closedOf m ≡ ranAs (closeOf m)
+unfolding closedOf
+closed-ready m h = if-fit _ _ _ _ _ (true-sound m h)

@@ -1,10 +1,8 @@
 -- `is_ready` meets its contract. Assumes nothing.
-use mathlib.Core.Path.{_≡_, sym, _∙_}
-use mathlib.Core.Bool.{true, false}
+use mathlib.Core.Path.{sym, _∙_}
 use borrow.Author.Needs.{needs}
 use borrow.Author.Tests.{le-leb, lt-leb}
-use Rattle.laws.specs.Limit.{room}
-use Rattle.euckr.specs.EucKr.{soundB, readyB}
+use Rattle.euckr.specs.EucKr.{readyB}
 use Rattle.euckr.proofs.is_ready.Statement.{statement}
 use Rattle.euckr.proofs.is_ready.Tie as tie
 

@@ -1,8 +1,6 @@
 -- `is_fit` meets its contract. Assumes nothing.
-use mathlib.Core.Path.{_≡_, sym, _∙_}
-use mathlib.Core.Bool.{true, false}
+use mathlib.Core.Path.{sym, _∙_}
 use Rattle.single.specs.Fit.{fitB}
-use Rattle.single.specs.Lent.{Lent, lent, sizedB}
 use borrow.Author.Needs.{needs}
 use Rattle.single.proofs.is_fit.Statement.{statement}
 use Rattle.single.proofs.is_fit.Tie as tie

@@ -1,7 +1,5 @@
 -- `Big5::is_sound_for` meets its contract. Assumes nothing.
-use mathlib.Core.Path.{_≡_, sym, _∙_}
-use mathlib.Core.Bool.{true, false}
-use Rattle.pairs.specs.Pairs.{isLeadOrNone}
+use mathlib.Core.Path.{sym, _∙_}
 use Rattle.big5.specs.Big5.{soundB}
 use borrow.Author.Needs.{needs}
 use Rattle.big5.proofs.Big5.is_sound_for.Statement.{statement}

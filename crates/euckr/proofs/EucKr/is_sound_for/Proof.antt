@@ -1,8 +1,6 @@
 -- `EucKr::is_sound_for` meets its contract. Assumes nothing.
-use mathlib.Core.Path.{_≡_, sym, _∙_}
-use mathlib.Core.Bool.{true, false}
+use mathlib.Core.Path.{sym, _∙_}
 use borrow.Author.Tests.{le-leb, lt-leb}
-use Rattle.pairs.specs.Pairs.{isLeadOrNone}
 use Rattle.euckr.specs.EucKr.{soundB}
 use borrow.Author.Needs.{needs}
 use Rattle.euckr.proofs.EucKr.is_sound_for.Statement.{statement}

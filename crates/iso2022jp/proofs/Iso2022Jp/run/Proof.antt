@@ -1,8 +1,11 @@
 -- `Iso2022Jp::run` meets its contract. Assumes nothing.
 use mathlib.Core.Path.{sym, _∙_}
+use mathlib.Core.Bool.{and-false}
 use borrow.Author.Needs.{needs}
-use Rattle.iso2022jp.specs.Iso2022Jp.{Ready}
-use Rattle.iso2022jp.specs.Iso2022JpLaws.{sound-true, ran-ready, ran-unsound, ran-unsized, ran-long}
+use borrow.Author.Tests.{lt-leb, ne-eqb}
+use Rattle.laws.specs.Answer.{if-unfit}
+use Rattle.iso2022jp.specs.Iso2022Jp.{Ready, readyB, ranOf}
+use Rattle.iso2022jp.specs.Iso2022JpLaws.{sound-true, ran-ready}
 use Rattle.iso2022jp.proofs.Iso2022Jp.run.Statement.{statement}
 use Rattle.iso2022jp.proofs.Iso2022Jp.run.Tie as tie
 
@@ -22,13 +25,16 @@ returns : tie.Need-returns
 returns c = c .feed .ensures ∙ sym (ran-ready _ _ _ (ready (c .before)))
 
 returns-2 : tie.Need-returns-2
-returns-2 c = ran-long _ _ _ (c .if3 .left)
+unfolding ranOf readyB
+returns-2 c = sym (if-unfit _ _ _ _ _ (rw (lt-leb _ _ (c .if3 .left), and-false, and-false)))
 
 returns-3 : tie.Need-returns-3
-returns-3 c = ran-unsized _ _ _ (c .if2 .left)
+unfolding ranOf readyB
+returns-3 c = sym (if-unfit _ _ _ _ _ (rw (ne-eqb _ _ (c .if2 .left), and-false)))
 
 returns-4 : tie.Need-returns-4
-returns-4 c = ran-unsound _ _ _ (sym (c .before .is-sound .ensures) ∙ c .if1 .left)
+unfolding ranOf readyB
+returns-4 c = sym (if-unfit _ _ _ _ _ (rw (sym (c .before .is-sound .ensures) ∙ c .if1 .left)))
 
 pub run-spec : {M : Type 1} → statement M
 run-spec = tie.close (tie.spec is-sound-requires feed-requires returns returns-2 returns-3 returns-4)
