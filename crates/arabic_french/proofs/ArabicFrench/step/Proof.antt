@@ -1,14 +1,12 @@
 -- `ArabicFrench::step` meets its contract. Assumes nothing.
-use mathlib.Core.Path.{_≡_, sym, ap}
+use mathlib.Core.Path.{_≡_}
 use native.Mathlib.Omega.{arith}
 use lib.IntN.{ℤ, _+ℤ_}
 use mir.Syntax.{w64}
 use mir.Val.{toZ, ofZ}
-use Rattle.laws.specs.Answer.{ran}
 use Rattle.laws.specs.Sizes.{abs-add, sum-fits, thru, thru64}
 use Rattle.arabic_french.specs.ArabicFrench.{stepOf}
-use Rattle.single.specs.ClassLaws.{at255, not255}
-use Rattle.single.specs.Lent.{Lent, lent}
+use borrow.Author.Tests.{eq-eqb, ne-eqb}
 use Rattle.single.specs.WordsLaws.{words-kept}
 use borrow.Author.Needs.{needs}
 use Rattle.arabic_french.proofs.ArabicFrench.step.Statement.{statement}
@@ -34,17 +32,12 @@ module _ (c : tie.After-gain2) where
   read-sum : toZ w64 (ofZ w64 (toZ w64 (ofZ w64 pair) +ℤ toZ w64 (ofZ w64 caseGain))) ≡ pair +ℤ caseGain
   read-sum = rw (read-pair, read-case) (thru w64 (pair +ℤ caseGain) (sum-fits pair caseGain 4294967296 2147483648 (c .before .gain .ensures .1) (c .gain2 .ensures .1) (omega arith)))
 
-abbrev tables : tie.Start → Lent
-tables s = lent (s .args .classes .now) (s .args .marks .now) (s .args .pairs .now) (s .args .weights .now)
-
 shared-slice-read-class : tie.Need-shared-slice-read-class
 shared-slice-read-class c = search needs
 
 returns : tie.Need-returns
 unfolding stepOf
-returns c =
-    let s = c .before .before .before .before in
-    (ap ran (sym (at255 (tables s) (s .args .b) _ (c .if1 .taken))), tt)
+returns c = (rw (eq-eqb _ _ (c .if1 .taken)), tt)
 
 is-non-latin-alphabetic-requires : tie.Need-is-non-latin-alphabetic-requires
 is-non-latin-alphabetic-requires c κs = search needs
@@ -81,7 +74,7 @@ returns-2 c =
     let v = words-kept (w .words-after .result) (s .args .self .«current_word_len») (s .args .self .«longest_word») (a .is-non-latin-alphabetic .result) (omega (arith, s .pre .1 .word-most)) (w .words-after .ensures) in
     let p = rw (g .before .is-ascii-pair .ensures) at (g .gain .ensures .0) in
     let k = rw (g .before .is-ascii-pair .ensures) at (q .gain2 .ensures .0) in
-    (rw (read-sum q, sums p k, c .before .after .ensures, c .is-ascii .ensures, v .0, v .1, a .is-non-latin-alphabetic .ensures) (ap ran (sym (not255 (tables s) (s .args .b) _ (a .before .if1 .left)))), rw (read-sum q) (omega (arith, abs-add (pair q) (caseGain q), g .gain .ensures .1, q .gain2 .ensures .1)))
+    (rw (ne-eqb _ _ (a .before .if1 .left), read-sum q, sums p k, c .before .after .ensures, c .is-ascii .ensures, v .0, v .1, a .is-non-latin-alphabetic .ensures), rw (read-sum q) (omega (arith, abs-add (pair q) (caseGain q), g .gain .ensures .1, q .gain2 .ensures .1)))
 
 pub step-spec : {M : Type 1} → statement M
 step-spec =

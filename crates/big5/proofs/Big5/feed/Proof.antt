@@ -1,17 +1,15 @@
 -- `Big5::feed` meets its contract: the loop of `Going`, whose measure is what is left of the part. Assumes nothing.
-use mathlib.Core.Path.{_≡_, ap, sym, _∙_}
-use Prim.Native.Nat.{_+_, _-_, _≤_}
+use mathlib.Core.Path.{ap, sym, _∙_}
+use Prim.Native.Nat.{_+_, _-_}
 use native.Mathlib.Omega.{arith}
-use lib.IntN.{natAbs}
-use lib.ListN.{getD, length}
+use lib.ListN.{length}
 use borrow.Author.Needs.{needs}
 use mir.Syntax.{w64}
 use mir.Val.{toZ}
 use Rattle.laws.specs.Going.{Going, going-start, going-next, going-fits, going-none, going-done, going-small}
-use Rattle.laws.specs.Run.{live}
 use Rattle.laws.specs.Limit.{limit}
 use Rattle.weights.specs.Weights.{perByte}
-use Rattle.big5.specs.Scoring.{Lent, lent, stepOf}
+use Rattle.big5.specs.Scoring.{lent, stepOf}
 use Rattle.big5.specs.Big5.{Sound, outOf, ranAs}
 use Rattle.big5.specs.Big5Laws.{sound-any, turn-within}
 use Rattle.big5.proofs.Big5.feed.Statement.{statement}
@@ -22,23 +20,6 @@ Inv-loop part index w m₀ s₀ i₀ m s i = Going (stepOf (lent index w)) Sound
 
 abbrev μ-loop : tie.MeasureT-loop
 μ-loop part index w m₀ s₀ i₀ m s i = length part - i
-
-abbrev tables : tie.Start Inv-loop μ-loop → Lent
-tables s = lent (s .args .index .now) (s .args .w)
-
--- in the arm that goes on: what the step gave
-module _ (c : tie.After-known-told Inv-loop μ-loop) where
-  abbrev at : tie.At-loop Inv-loop μ-loop
-  at = c .before .before .before .before .before .before
-
-  abbrev start : tie.Start Inv-loop μ-loop
-  start = at .before .before .before
-
-  gave : stepOf (tables start) (at .loop .m) (getD (start .args .part .now) (at .loop .i) 0) ≡ live (c .before .next .given .0 .0) (c .before .next .given .0 .1 .0)
-  gave = sym (c .before .before .before .step .ensures) ∙ ap outOf (c .before .next .given .1)
-
-  kept-sound : Sound (limit + at .loop .i + 1) (c .before .next .given .0 .0) × (natAbs (c .before .next .given .0 .1 .0) ≤ perByte)
-  kept-sound = turn-within (tables start) (start .pre .0) (limit + at .loop .i) (at .loop .m) _ _ _ (at .loop .inv .sound) gave
 
 loop-holds : tie.Need-loop-holds Inv-loop μ-loop
 loop-holds c = going-start (c .before .before .pre .1 .0)
@@ -56,7 +37,12 @@ enum-known-next : tie.Need-enum-known-next Inv-loop μ-loop
 enum-known-next c = search needs
 
 add-s : tie.Need-add-s Inv-loop μ-loop
-add-s c = going-fits (at c .loop .inv) (c .before .before .before .before .before .loop-test .taken) (gave c) (kept-sound c .1) (start c .pre .1 .1 .0) (omega arith)
+add-s c =
+    let t = c .before .before .before .before .before in
+    let s = t .before .before .before .before in
+    let gave = sym (c .before .before .before .step .ensures) ∙ ap outOf (c .before .next .given .1) in
+    let kept = turn-within _ (s .pre .0) _ _ _ _ _ (t .before .loop .inv .sound) gave in
+    going-fits (t .before .loop .inv) (t .loop-test .taken) gave (kept .1) (s .pre .1 .1 .0) (omega arith)
 
 enum-told : tie.Need-enum-told Inv-loop μ-loop
 enum-told c = search needs
@@ -73,7 +59,12 @@ loop-less : tie.Need-loop-less Inv-loop μ-loop
 loop-less c = omega arith
 
 loop-again : tie.Need-loop-again Inv-loop μ-loop
-loop-again c = going-next (at c .loop .inv) (c .before .before .before .before .before .loop-test .taken) (gave c) (kept-sound c .1) (start c .pre .1 .1 .0) (omega arith) (kept-sound c .0)
+loop-again c =
+    let t = c .before .before .before .before .before in
+    let s = t .before .before .before .before in
+    let gave = sym (c .before .before .before .step .ensures) ∙ ap outOf (c .before .next .given .1) in
+    let kept = turn-within _ (s .pre .0) _ _ _ _ _ (t .before .loop .inv .sound) gave in
+    going-next (t .before .loop .inv) (t .loop-test .taken) gave (kept .1) (s .pre .1 .1 .0) (omega arith) (kept .0)
 
 returns-2 : tie.Need-returns-2 Inv-loop μ-loop
 returns-2 c =

@@ -1,27 +1,19 @@
 -- `Caseless::step` meets its contract. Assumes nothing.
-use mathlib.Core.Path.{sym, ap}
 use native.Mathlib.Omega.{arith}
-use Rattle.laws.specs.Answer.{ran}
 use Rattle.laws.specs.Sizes.{thru64}
 use Rattle.caseless.specs.Caseless.{stepOf}
-use Rattle.single.specs.ClassLaws.{at255, not255}
-use Rattle.single.specs.Lent.{Lent, lent}
+use borrow.Author.Tests.{eq-eqb, ne-eqb}
 use Rattle.single.specs.WordsLaws.{words-kept}
 use borrow.Author.Needs.{needs}
 use Rattle.caseless.proofs.Caseless.step.Statement.{statement}
 use Rattle.caseless.proofs.Caseless.step.Tie as tie
-
-abbrev tables : tie.Start → Lent
-tables s = lent (s .args .classes .now) (s .args .marks .now) (s .args .pairs .now) (s .args .weights .now)
 
 shared-slice-read-class : tie.Need-shared-slice-read-class
 shared-slice-read-class c = search needs
 
 returns : tie.Need-returns
 unfolding stepOf
-returns c =
-    let s = c .before .before .before .before in
-    (ap ran (sym (at255 (tables s) (s .args .b) _ (c .if1 .taken))), tt)
+returns c = (rw (eq-eqb _ _ (c .if1 .taken)), tt)
 
 is-non-latin-alphabetic-requires : tie.Need-is-non-latin-alphabetic-requires
 is-non-latin-alphabetic-requires c κs = search needs
@@ -47,7 +39,7 @@ returns-2 c =
     let s = a .before .before .before .before .before in
     let v = words-kept (w .words-after .result) (s .args .self .«current_word_len») (s .args .self .«longest_word») (a .is-non-latin-alphabetic .result) (omega (arith, s .pre .1 .word-most)) (w .words-after .ensures) in
     let e = thru64 (g .gain .result) 4294967296 (g .gain .ensures .1) (omega arith) in
-    (rw (e, c .is-ascii .ensures, v .0, v .1, a .is-non-latin-alphabetic .ensures, g .gain .ensures .0, g .before .is-ascii-pair .ensures) (ap ran (sym (not255 (tables s) (s .args .b) _ (a .before .if1 .left)))), rw e (omega (arith, g .gain .ensures .1)))
+    (rw (ne-eqb _ _ (a .before .if1 .left), e, c .is-ascii .ensures, v .0, v .1, a .is-non-latin-alphabetic .ensures, g .gain .ensures .0, g .before .is-ascii-pair .ensures), rw e (omega (arith, g .gain .ensures .1)))
 
 pub step-spec : {M : Type 1} → statement M
 step-spec =

@@ -1,31 +1,24 @@
 -- `Logical::step` meets its contract: two ASCII bytes go one way, any others the other. Assumes nothing.
-use mathlib.Core.Path.{_≡_, sym, ap, _∙_}
+use mathlib.Core.Path.{_≡_, sym, _∙_}
 use mathlib.Core.Bool.{true, false}
 use native.Mathlib.Omega.{arith}
-use Rattle.laws.specs.Answer.{ran}
 use Rattle.laws.specs.Sizes.{thru64}
 use Rattle.laws.specs.Tests.{both}
 use Rattle.octets.specs.Octets.{ascii}
 use Rattle.logical.specs.Logical.{stepOf}
-use Rattle.single.specs.ClassLaws.{at255, not255}
-use Rattle.single.specs.Lent.{Lent, lent}
+use borrow.Author.Tests.{eq-eqb, ne-eqb}
 use Rattle.single.specs.Pair.{asciiPair}
 use Rattle.single.specs.WordsLaws.{count-kept, words-kept}
 use borrow.Author.Needs.{needs}
 use Rattle.logical.proofs.Logical.step.Statement.{statement}
 use Rattle.logical.proofs.Logical.step.Tie as tie
 
-abbrev tables : tie.Start → Lent
-tables s = lent (s .args .classes .now) (s .args .marks .now) (s .args .pairs .now) (s .args .weights .now)
-
 shared-slice-read-class : tie.Need-shared-slice-read-class
 shared-slice-read-class c = search needs
 
 returns : tie.Need-returns
 unfolding stepOf
-returns c =
-    let s = c .before .before .before .before in
-    (ap ran (sym (at255 (tables s) (s .args .b) _ (c .if1 .taken))), tt)
+returns c = (rw (eq-eqb _ _ (c .if1 .taken)), tt)
 
 is-non-latin-alphabetic-requires : tie.Need-is-non-latin-alphabetic-requires
 is-non-latin-alphabetic-requires c κs = search needs
@@ -46,7 +39,7 @@ returns-2 c =
     let v = words-kept (w .words-after .result) (s .args .self .«current_word_len») (s .args .self .«longest_word») (a .is-non-latin-alphabetic .result) (omega (arith, s .pre .1 .common .word-most)) (w .words-after .ensures) in
     let e : asciiPair (s .args .self .«prev_ascii») (s .args .b) ≡ true = sym (k .is-ascii-pair .ensures) ∙ c .if2 .taken in
     let f : ascii (s .args .b) ≡ true = both (s .args .self .«prev_ascii») (ascii (s .args .b)) e .1 in
-    (rw (e, f, v .0, v .1, a .is-non-latin-alphabetic .ensures) (ap ran (sym (not255 (tables s) (s .args .b) _ (a .before .if1 .left)))), omega arith)
+    (rw (ne-eqb _ _ (a .before .if1 .left), e, f, v .0, v .1, a .is-non-latin-alphabetic .ensures), omega arith)
 
 pair-gain-requires : tie.Need-pair-gain-requires
 pair-gain-requires c κs = search needs
@@ -72,7 +65,7 @@ returns-3 c =
     let e : asciiPair (s .args .self .«prev_ascii») (s .args .b) ≡ false = sym (k .is-ascii-pair .ensures) ∙ g .before .if2 .left in
     let n = count-kept (s .args .self .«plausible_punctuation») (c .before .before .is-plausible .result) (omega (arith, s .pre .1 .punctuation-most)) in
     let z = thru64 (g .pair-gain .result) 4294967296 (g .pair-gain .ensures .1) (omega arith) in
-    (rw (z, e, c .count-if .ensures ∙ n, c .before .before .is-plausible .ensures, c .before .is-ascii .ensures, v .0, v .1, a .is-non-latin-alphabetic .ensures, g .pair-gain .ensures .0) (ap ran (sym (not255 (tables s) (s .args .b) _ (a .before .if1 .left)))), rw z (omega (arith, g .pair-gain .ensures .1)))
+    (rw (ne-eqb _ _ (a .before .if1 .left), z, e, c .count-if .ensures ∙ n, c .before .before .is-plausible .ensures, c .before .is-ascii .ensures, v .0, v .1, a .is-non-latin-alphabetic .ensures, g .pair-gain .ensures .0), rw z (omega (arith, g .pair-gain .ensures .1)))
 
 pub step-spec : {M : Type 1} → statement M
 step-spec =
