@@ -1,13 +1,14 @@
 // A single-byte encoding of Arabic and French, as windows-1256 is: the case of Latin letters counts.
 ghost use mathlib.Core.Path.{_≡_};
 ghost use Prim.Native.Nat.{_*_, _≤_};
-ghost use lib.IntN.{pos, natAbs};
+ghost use lib.IntN.{natAbs};
 ghost use lib.ListN.{length};
-ghost use Rattle.laws.specs.Run.{live, run};
+ghost use Rattle.laws.specs.Answer.{ran};
+ghost use Rattle.laws.specs.Run.{alive, run};
 ghost use Rattle.weights.specs.Weights.{term, perByte};
-ghost use Rattle.arabic_french.specs.ArabicFrench.{freshOf, caseOf, clashOf, caseGainOf, stepOf, ranAs, ranOf, closedOf, Sound, soundB, Small};
+ghost use Rattle.arabic_french.specs.ArabicFrench.{freshOf, caseOf, clashOf, caseGainOf, stepOf, answerOf, ranAs, ranOf, closedOf, Sound, soundB, Small};
 ghost use Rattle.laws.specs.Limit.{room};
-ghost use Rattle.single.specs.Fit.{Fit, fitB};
+ghost use Rattle.single.specs.Fit.{Fit};
 ghost use Rattle.single.specs.Lent.{lent, Sized};
 
 pub enum LatinCaseState {
@@ -100,7 +101,7 @@ impl ArabicFrench {
     fn step(self, b: u8, classes: &[u8], marks: &[u8], pairs: &[i16], weights: &[i32]) -> Ran
         requires { ⌜ Sized (lent (now classes) (now marks) (now pairs) (now weights)) ⌝ }
         requires { ⌜ Sound (2 * room) self ⌝ }
-        ensures { λ r. ⌜ r ≡ ranAs (stepOf (lent (now (classes .entry)) (now (marks .entry)) (now (pairs .entry)) (now (weights .entry))) self b) ⌝ }
+        ensures { λ r. ⌜ answerOf r ≡ ran (stepOf (lent (now (classes .entry)) (now (marks .entry)) (now (pairs .entry)) (now (weights .entry))) self b) ⌝ }
         ensures { λ r. ⌜ Small perByte r ⌝ }
     {
         let class = classes[b as usize];
@@ -128,7 +129,7 @@ impl ArabicFrench {
 
     fn feed(self, part: &[u8], classes: &[u8], marks: &[u8], pairs: &[i16], weights: &[i32]) -> Ran
         requires { ⌜ Fit (lent (now classes) (now marks) (now pairs) (now weights)) (Sound room self) (length (now part)) ⌝ }
-        ensures { λ r. ⌜ r ≡ ranAs (run (stepOf (lent (now (classes .entry)) (now (marks .entry)) (now (pairs .entry)) (now (weights .entry)))) (live self (pos 0)) (now (part .entry))) ⌝ }
+        ensures { λ r. ⌜ r ≡ ranAs (run (stepOf (lent (now (classes .entry)) (now (marks .entry)) (now (pairs .entry)) (now (weights .entry)))) (alive self) (now (part .entry))) ⌝ }
         ensures { λ r. ⌜ Small (perByte * length (now (part .entry))) r ⌝ }
     {
         let mut m = self;
@@ -159,26 +160,6 @@ impl ArabicFrench {
         single::is_common(n, self.prev, self.current_word_len, self.longest_word)
     }
 
-    fn is_fit(
-        self,
-        bytes: usize,
-        classes: &[u8],
-        marks: &[u8],
-        pairs: &[i16],
-        weights: &[i32],
-    ) -> bool
-        ensures { λ r. ⌜ r ≡ fitB (lent (now (classes .entry)) (now (marks .entry)) (now (pairs .entry)) (now (weights .entry))) (soundB room self) bytes ⌝ }
-    {
-        single::is_fit(
-            self.is_sound_for(lengths::ROOM),
-            bytes,
-            classes,
-            marks,
-            pairs,
-            weights,
-        )
-    }
-
     // A part of a chunk, byte after byte.
     pub fn run(
         self,
@@ -191,7 +172,14 @@ impl ArabicFrench {
         ensures { λ r. ⌜ r ≡ ranOf (lent (now (classes .entry)) (now (marks .entry)) (now (pairs .entry)) (now (weights .entry))) self (now (part .entry)) ⌝ }
         ensures { λ r. ⌜ Small (perByte * length (now (part .entry))) r ⌝ }
     {
-        if self.is_fit(part.len(), classes, marks, pairs, weights) {
+        if single::is_fit(
+            self.is_sound_for(lengths::ROOM),
+            part.len(),
+            classes,
+            marks,
+            pairs,
+            weights,
+        ) {
             // The test has shown both: said again so that no read in the loop is tested.
             let mut m = self;
             m.prev = self.prev % Self::CLASSES;

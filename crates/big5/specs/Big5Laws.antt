@@ -1,34 +1,33 @@
--- Laws of the Big5 machine: what a record holds is kept, a byte adds at most five terms, the tests decide, a run joins. Assumes nothing.
+-- Laws of the Big5 machine: what a record holds is kept, a byte adds at most five terms, the tests decide. Assumes nothing.
 use mathlib.Core.Path.{_≡_}
-use mathlib.Core.Bool.{Bool, true, false, cond, _&&_}
-use mathlib.Core.List.{List, _++_}
+use mathlib.Core.Bool.{true, _&&_}
+use mathlib.Core.List.{List}
 use Prim.Native.Nat.{ℕ, _+_, _≤_}
 use native.Mathlib.Omega.{arith}
 use lib.Dec.{leb, ltb, eqb}
 use lib.IntN.{ℤ, pos, natAbs, _+ℤ_}
 use lib.ListN.{length}
 use borrow.Author.Tests.{leb-true, le-leb, eqb-true, eq-eqb}
-use Rattle.laws.specs.Tests.{both}
-use Rattle.laws.specs.Run.{dropout, Outcome, none, live, run, run-append, Within}
+use Rattle.laws.specs.Tests.{both, picked}
+use Rattle.laws.specs.Answer.{if-fit}
+use Rattle.laws.specs.Run.{live, run, Within, alive}
 use Rattle.laws.specs.Sizes.{abs-add}
 use Rattle.octets.specs.Octets.{ascii, letter}
 use Rattle.pairs.specs.Pairs.{isLeadOrNone, releasedOf, SmallHeld, smallHeldB}
 use Rattle.pairs.specs.PairsLaws.{handler-lead, held-true, true-held}
 use Rattle.pairs.specs.declared.Event.{Event}
 use Rattle.pairs.specs.declared.Event.the-variants.{Pending, Point, Two, Error}
-use Rattle.pairs.specs.declared.Held.the-variants.{Nothing, Score}
+use Rattle.pairs.specs.declared.Held.the-variants.{Nothing}
 use Rattle.laws.specs.Limit.{limit}
 use Rattle.weights.specs.Weights.{term, perByte}
 use Rattle.lengths.specs.Lengths.{weightCount, big5Count}
 use Rattle.big5_decoder.specs.Standard.{layout, pointsOf, decodeOf}
 use Rattle.big5.specs.Scoring.{scaleOf, isHanzi, isDistinct, besideOf, besideHanzi, scored, holdsOf, hanziWeight, letterOf, hanziOf, otherOf, unitOf, pointOf, unmappedOf, extensionOf, isPair, extends, after, strayOf, errorOf, onEvent, Lent, lent, stepOf}
-use Rattle.big5.specs.Big5.{Sound, soundB, Small, ranAs, Weighed, readyB, Ready, ranOf}
+use Rattle.big5.specs.Big5.{Sound, soundB, SmallScale, ranAs, readyB, Ready, ranOf, closeOf, closedOf}
 use Rattle.big5.specs.Ways.{beside-small, hanzi-small}
 use Rattle.big5.specs.declared.Big5.{Big5}
 use Rattle.big5.specs.declared.LatinCj.{LatinCj}
 use Rattle.big5.specs.declared.LatinCj.the-variants.{AsciiLetter, Cj, Other}
-use Rattle.big5.specs.declared.Ran.{Ran}
-use Rattle.big5.specs.declared.Ran.the-variants.{Live, Dropped, Unfit}
 use Rattle.big5.specs.declared.Scale.{Scale}
 use Rattle.big5.specs.declared.Scored.{Scored}
 
@@ -59,26 +58,18 @@ module _ (index : List ℕ) (weights : List ℤ) (m : Big5) (xs : List ℕ) wher
   true-ready r = rw (true-sound limit m (r .sound), le-leb _ _ (r .short), eq-eqb _ _ (r .index-length), eq-eqb _ _ (r .weights-length))
 
   -- what a caller that has tested uses
-  pub ran-ready : Ready index weights m xs → ranOf index weights m xs ≡ ranAs (run (stepOf (lent index (scaleOf weights))) (live m (pos 0)) xs)
+  pub ran-ready : Ready index weights m xs → ranOf index weights m xs ≡ ranAs (run (stepOf (lent index (scaleOf weights))) (alive m) xs)
   unfolding ranOf
-  ran-ready r = rw (true-ready r)
+  ran-ready r = if-fit _ _ _ _ _ (true-ready r)
 
-  pub ran-unfit : readyB index weights m xs ≡ false → ranOf index weights m xs ≡ Unfit
-  unfolding ranOf
-  ran-unfit e = rw e
+pub closed-ready : (m : Big5) → Sound limit m → closedOf m ≡ ranAs (closeOf m)
+unfolding closedOf
+closed-ready m s = if-fit _ _ _ _ _ (true-sound limit m s)
 
 -- ---- each byte adds at most five terms, and leaves a record that Big5 can hold
 pub record Fair (s : Scored) : Type 0 where
   pub held-small : SmallHeld (s .held)
   pub gain-small : natAbs (s .gain) ≤ perByte
-
-fair-pick : (t : Bool) (a b : Scored) → Fair a → Fair b → Fair (cond t a b)
-fair-pick true a b p q = p
-fair-pick false a b p q = q
-
-within-pick : (t : Bool) (P : Big5 → Type 0) (a b : Outcome Big5) → Within P perByte a → Within P perByte b → Within P perByte (cond t a b)
-within-pick true P a b p q = p
-within-pick false P a b p q = q
 
 plain-fair : (k : LatinCj) (g : ℤ) → natAbs g ≤ perByte → Fair (scored k Nothing g)
 plain-fair k g h = record { held-small = omega arith; gain-small = h }
@@ -86,7 +77,7 @@ plain-fair k g h = record { held-small = omega arith; gain-small = h }
 after-within : (n lead b : ℕ) (s : Scored) → isLeadOrNone lead ≡ true → Fair s → Within (Sound n) perByte (after lead b s)
 after-within n lead b s e f = (record { lead-fits = e; held-small = f .held-small }, f .gain-small)
 
-module _ (w : Scale) (small : Small w) (m : Big5) (held : SmallHeld (m .held)) where
+module _ (w : Scale) (small : SmallScale w) (m : Big5) (held : SmallHeld (m .held)) where
   beside-letter : (k : LatinCj) → natAbs (besideHanzi w k) ≤ term
   beside-letter AsciiLetter = omega arith
   beside-letter Cj = small .adjacency
@@ -103,7 +94,7 @@ module _ (w : Scale) (small : Small w) (m : Big5) (held : SmallHeld (m .held)) w
       let b = besideOf w (m .prev) in
       let p = abs-add a b in
       let q = beside-small w small (m .prev) in
-      fair-pick (holdsOf m) (scored Cj (Score own) (a +ℤ b)) (scored Cj Nothing (a +ℤ b +ℤ own)) (record { held-small = h; gain-small = omega (arith, p, q, held) }) (plain-fair Cj (a +ℤ b +ℤ own) (omega (arith, abs-add (a +ℤ b) own, p, q, held)))
+      picked Fair (holdsOf m) (record { held-small = h; gain-small = omega (arith, p, q, held) }) (plain-fair Cj (a +ℤ b +ℤ own) (omega (arith, abs-add (a +ℤ b) own, p, q, held)))
 
   other-fair : (own : ℤ) → natAbs own ≤ term → Fair (otherOf m own)
   unfolding otherOf
@@ -112,14 +103,14 @@ module _ (w : Scale) (small : Small w) (m : Big5) (held : SmallHeld (m .held)) w
   unit-fair : (u : ℕ) → Fair (unitOf w m u)
   unfolding unitOf
   unit-fair u =
-      fair-pick (letter u) (letterOf w m) _ letter-fair
-      (fair-pick (isHanzi u) (hanziOf w m (hanziWeight w (m .«prev_byte»))) _ (hanzi-fair (hanziWeight w (m .«prev_byte»)) (hanzi-small w small (m .«prev_byte»)))
-      (fair-pick (isDistinct u) (otherOf m (w .punctuation)) _ (other-fair (w .punctuation) (small .punctuation))
-      (fair-pick (ascii u) (scored Other Nothing (pos 0)) (otherOf m (w .other)) (plain-fair Other (pos 0) (omega arith)) (other-fair (w .other) (small .other)))))
+      picked Fair (letter u) letter-fair
+      (picked Fair (isHanzi u) (hanzi-fair (hanziWeight w (m .«prev_byte»)) (hanzi-small w small (m .«prev_byte»)))
+      (picked Fair (isDistinct u) (other-fair (w .punctuation) (small .punctuation))
+      (picked Fair (ascii u) (plain-fair Other (pos 0) (omega arith)) (other-fair (w .other) (small .other)))))
 
   point-fair : (p : ℕ) → Fair (pointOf w m p)
   unfolding pointOf
-  point-fair p = fair-pick (ltb p 0x10000) (unitOf w m p) (hanziOf w m (w .hanzi)) (unit-fair p) (hanzi-fair (w .hanzi) (small .hanzi))
+  point-fair p = picked Fair (ltb p 0x10000) (unit-fair p) (hanzi-fair (w .hanzi) (small .hanzi))
 
   unmapped-fair : Fair (unmappedOf w m)
   unfolding unmappedOf
@@ -132,19 +123,19 @@ module _ (w : Scale) (small : Small w) (m : Big5) (held : SmallHeld (m .held)) w
   unfolding extensionOf
   extension-fair b =
       let e = w .extension in
-      fair-pick (eqb b 0xFF) (scored Other Nothing (e +ℤ e)) _ (plain-fair Other (e +ℤ e) (omega (arith, abs-add e e, small .extension)))
-      (fair-pick (letter b) (scored AsciiLetter Nothing e) (scored Other Nothing e) (plain-fair AsciiLetter e (omega (arith, small .extension))) (plain-fair Other e (omega (arith, small .extension))))
+      picked Fair (eqb b 0xFF) (plain-fair Other (e +ℤ e) (omega (arith, abs-add e e, small .extension)))
+      (picked Fair (letter b) (plain-fair AsciiLetter e (omega (arith, small .extension))) (plain-fair Other e (omega (arith, small .extension))))
 
   module _ (n lead b : ℕ) (fits : isLeadOrNone lead ≡ true) where
     stray-within : (k : ℕ) → Within (Sound n) perByte (strayOf w m lead b k)
     unfolding strayOf
     stray-within k =
-        within-pick (extends (m .«prev_byte») b) (Sound n) (after lead b (extensionOf w b)) _ (after-within n lead b (extensionOf w b) fits (extension-fair b))
-        (within-pick (eqb k 1 && eqb b 0xFF) (Sound n) (after lead b (scored Other Nothing (w .extension))) (none dropout) (after-within n lead b (scored Other Nothing (w .extension)) fits (plain-fair Other (w .extension) (omega (arith, small .extension)))) tt)
+        picked (Within (Sound n) perByte) (extends (m .«prev_byte») b) (after-within n lead b (extensionOf w b) fits (extension-fair b))
+        (picked (Within (Sound n) perByte) (eqb k 1 && eqb b 0xFF) (after-within n lead b (scored Other Nothing (w .extension)) fits (plain-fair Other (w .extension) (omega (arith, small .extension)))) tt)
 
     error-within : (k : ℕ) → Within (Sound n) perByte (errorOf w m lead b k)
     unfolding errorOf
-    error-within k = within-pick (isPair (m .«prev_byte») b) (Sound n) (after lead b (unmappedOf w m)) (strayOf w m lead b k) (after-within n lead b (unmappedOf w m) fits unmapped-fair) (stray-within k)
+    error-within k = picked (Within (Sound n) perByte) (isPair (m .«prev_byte») b) (after-within n lead b (unmappedOf w m) fits unmapped-fair) (stray-within k)
 
     event-within : (e : Event) → Within (Sound n) perByte (onEvent w m lead b e)
     event-within Pending = (record { lead-fits = fits; held-small = held }, omega arith)
@@ -152,22 +143,12 @@ module _ (w : Scale) (small : Small w) (m : Big5) (held : SmallHeld (m .held)) w
     event-within (Two p q) = after-within n lead b (otherOf m (w .other)) fits (other-fair (w .other) (small .other))
     event-within (Error k) = error-within k
 
-pub step-within : (t : Lent) → Small (t .scale) → (n : ℕ) (m : Big5) (b : ℕ) → Sound n m → Within (Sound (n + 1)) perByte (stepOf t m b)
+pub step-within : (t : Lent) → SmallScale (t .scale) → (n : ℕ) (m : Big5) (b : ℕ) → Sound n m → Within (Sound (n + 1)) perByte (stepOf t m b)
 unfolding stepOf decodeOf
 step-within t small n m b s =
     let d = decodeOf (t .index) (m .lead) b in
     event-within (t .scale) small m (s .held-small) (n + 1) (d .lead) b (handler-lead layout (pointsOf (t .index)) (m .lead) b) (d .event)
 
 -- the same of a step that was live
-pub turn-within : (t : Lent) → Small (t .scale) → (n : ℕ) (m : Big5) (b : ℕ) (next : Big5) (g : ℤ) → Sound n m → stepOf t m b ≡ live next g → Sound (n + 1) next × (natAbs g ≤ perByte)
+pub turn-within : (t : Lent) → SmallScale (t .scale) → (n : ℕ) (m : Big5) (b : ℕ) (next : Big5) (g : ℤ) → Sound n m → stepOf t m b ≡ live next g → Sound (n + 1) next × (natAbs g ≤ perByte)
 turn-within t small n m b next g s e = rw e at (step-within t small n m b s)
-
--- ---- the weights that a run has read
-pub weighed : (weights : List ℤ) (r : Ran) → Small (scaleOf weights) → Weighed weights r
-weighed weights (Live m s) h = h
-weighed weights Dropped h = tt
-weighed weights Unfit h = tt
-
--- ---- a run over two parts, one after the other
-pub run-joins : (t : Lent) (o : Outcome Big5) (xs ys : List ℕ) → run (stepOf t) o (xs ++ ys) ≡ run (stepOf t) (run (stepOf t) o xs) ys
-run-joins t o xs ys = run-append (stepOf t) o xs ys

@@ -8,8 +8,8 @@ use native.Mathlib.Omega.{arith}
 use lib.Dec.{ltb, eqb}
 use lib.IntN.{ℤ, pos, _+ℤ_}
 use borrow.Author.Tests.{not-true, eq-eqb}
-use Rattle.laws.specs.Tests.{both}
-use Rattle.laws.specs.Run.{dropout, Outcome, none, live}
+use Rattle.laws.specs.Tests.{both, picked}
+use Rattle.laws.specs.Run.{Outcome, none, live, dropped}
 use Rattle.octets.specs.Octets.{between, ascii, letter}
 use Rattle.pairs.specs.Pairs.{isHeldLead, releasedOf}
 use Rattle.pairs.specs.declared.Event.{Event}
@@ -33,11 +33,6 @@ pub record Why (w : Scale) (m : Big5) (k : ℤ) : Type 0 where
 module _ (w : Scale) (m : Big5) where
   Whys : Scored → Type 0
   Whys s = (k : ℤ) → s .held ≡ Score k → Why w m k
-
-  why-pick : (t : Bool) (a b : Scored) → Whys a → Whys b → Whys (cond t a b)
-  unfolding Whys
-  why-pick true a b p q = p
-  why-pick false a b p q = q
 
   why-not : (kind : LatinCj) (g : ℤ) → Whys (scored kind Nothing g)
   unfolding Whys
@@ -65,20 +60,20 @@ module _ (w : Scale) (m : Big5) where
   why-unit : (u : ℕ) → Whys (unitOf w m u)
   unfolding unitOf letterOf otherOf hanziWeight
   why-unit u =
-      why-pick (letter u) (letterOf w m) _ (why-not AsciiLetter _)
-      (why-pick (isHanzi u) (hanziOf w m (hanziWeight w (m .«prev_byte»))) _ (why-hanzi (hanziWeight w (m .«prev_byte»)) (which (between 0xA4 0xC6 (m .«prev_byte»))))
-      (why-pick (isDistinct u) (otherOf m (w .punctuation)) _ (why-not Other _)
-      (why-pick (ascii u) (scored Other Nothing (pos 0)) (otherOf m (w .other)) (why-not Other (pos 0)) (why-not Other _))))
+      picked Whys (letter u) (why-not AsciiLetter _)
+      (picked Whys (isHanzi u) (why-hanzi (hanziWeight w (m .«prev_byte»)) (which (between 0xA4 0xC6 (m .«prev_byte»))))
+      (picked Whys (isDistinct u) (why-not Other _)
+      (picked Whys (ascii u) (why-not Other (pos 0)) (why-not Other _))))
 
   why-point : (p : ℕ) → Whys (pointOf w m p)
   unfolding pointOf
-  why-point p = why-pick (ltb p 0x10000) (unitOf w m p) (hanziOf w m (w .hanzi)) (why-unit p) (why-hanzi (w .hanzi) (inr refl))
+  why-point p = picked Whys (ltb p 0x10000) (why-unit p) (why-hanzi (w .hanzi) (inr refl))
 
   why-extension : (b : ℕ) → Whys (extensionOf w b)
   unfolding extensionOf
   why-extension b =
-      why-pick (eqb b 0xFF) (scored Other Nothing (w .extension +ℤ w .extension)) _ (why-not Other _)
-      (why-pick (letter b) (scored AsciiLetter Nothing (w .extension)) (scored Other Nothing (w .extension)) (why-not AsciiLetter _) (why-not Other _))
+      picked Whys (eqb b 0xFF) (why-not Other _)
+      (picked Whys (letter b) (why-not AsciiLetter _) (why-not Other _))
 
   -- ---- of a step: a score that is held was so already, and the byte is a lead, or it is held anew
   WhyOut : Event → Outcome Big5 → Type 0
@@ -89,12 +84,7 @@ module _ (w : Scale) (m : Big5) where
   unfolding Whys WhyOut
   why-after v lead b s h k e = inr (h k e)
 
-  out-pick : (v : Event) (t : Bool) (a b : Outcome Big5) → WhyOut v a → WhyOut v b → WhyOut v (cond t a b)
-  unfolding WhyOut
-  out-pick v true a b p q = p
-  out-pick v false a b p q = q
-
-  why-none : (v : Event) → WhyOut v (none dropout)
+  why-none : (v : Event) → WhyOut v dropped
   unfolding WhyOut
   why-none v = tt
 
@@ -102,9 +92,9 @@ module _ (w : Scale) (m : Big5) where
   unfolding errorOf strayOf unmappedOf
   why-error lead b n =
       let v = Error n in
-      out-pick v (isPair (m .«prev_byte») b) (after lead b (unmappedOf w m)) (strayOf w m lead b n) (why-after v lead b (unmappedOf w m) (why-not Cj _))
-      (out-pick v (extends (m .«prev_byte») b) (after lead b (extensionOf w b)) _ (why-after v lead b (extensionOf w b) (why-extension b))
-      (out-pick v (eqb n 1 && eqb b 0xFF) (after lead b (scored Other Nothing (w .extension))) (none dropout) (why-after v lead b (scored Other Nothing (w .extension)) (why-not Other _)) (why-none v)))
+      picked (WhyOut v) (isPair (m .«prev_byte») b) (why-after v lead b (unmappedOf w m) (why-not Cj _))
+      (picked (WhyOut v) (extends (m .«prev_byte») b) (why-after v lead b (extensionOf w b) (why-extension b))
+      (picked (WhyOut v) (eqb n 1 && eqb b 0xFF) (why-after v lead b (scored Other Nothing (w .extension)) (why-not Other _)) (why-none v)))
 
   why-event : (lead b : ℕ) (v : Event) → WhyOut v (onEvent w m lead b v)
   unfolding WhyOut otherOf

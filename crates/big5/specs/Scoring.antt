@@ -5,7 +5,7 @@ use Prim.Native.Nat.{ℕ}
 use lib.Dec.{ltb, eqb}
 use lib.IntN.{ℤ, pos, _+ℤ_}
 use Rattle.laws.specs.Lists.{isIn}
-use Rattle.laws.specs.Run.{dropout, Outcome, none, live}
+use Rattle.laws.specs.Run.{Outcome, live, dropped}
 use Rattle.octets.specs.Octets.{between, ascii, letter}
 use Rattle.pairs.specs.Pairs.{isLead, isHeldLead, releasedOf}
 use Rattle.pairs.specs.declared.Event.{Event}
@@ -128,7 +128,7 @@ module _ (w : Scale) (m : Big5) where
   unfoldable pub strayOf : ℕ → ℕ → ℕ → Outcome Big5
   strayOf lead b length =
       cond (extends (m .«prev_byte») b) (after lead b (extensionOf w b))
-      (cond (eqb length 1 && eqb b 0xFF) (after lead b (scored Other Nothing (w .extension))) (none dropout))
+      (cond (eqb length 1 && eqb b 0xFF) (after lead b (scored Other Nothing (w .extension))) dropped)
 
   unfoldable pub errorOf : ℕ → ℕ → ℕ → Outcome Big5
   errorOf lead b length = cond (isPair (m .«prev_byte») b) (after lead b (unmappedOf w m)) (strayOf lead b length)

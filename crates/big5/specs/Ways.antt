@@ -1,6 +1,6 @@
 -- What the code's branches need of the definitions: sizes, and sums as the code makes them. Assumes nothing.
 use mathlib.Core.Path.{_≡_, refl, sym, ap, _∙_}
-use mathlib.Core.Bool.{Bool, true, false, cond, _&&_}
+use mathlib.Core.Bool.{Bool, true, false, _&&_}
 use mathlib.Core.Logic.{_⊎_, inl, inr}
 use Prim.Native.Nat.{ℕ, _+_, _<_, _≤_}
 use native.Mathlib.Omega.{arith}
@@ -9,7 +9,8 @@ use lib.IntN.{ℤ, natAbs, _+ℤ_}
 use borrow.Author.Tests.{eq-eqb, ne-eqb, lt-ltb, le-ltb}
 use mir.Syntax.{w64}
 use mir.Val.{SFits}
-use Rattle.laws.specs.Run.{dropout, none}
+use Rattle.laws.specs.Tests.{picked}
+use Rattle.laws.specs.Run.{dropped}
 use Rattle.octets.specs.Octets.{between}
 use Rattle.pairs.specs.Pairs.{releasedOf, SmallHeld}
 use Rattle.pairs.specs.Sums.{kept, sum-fits, sum-read, sum3-fits, sum3-read}
@@ -19,18 +20,14 @@ use Rattle.pairs.specs.declared.Held.the-variants.{Nothing}
 use Rattle.weights.specs.Weights.{term}
 use Rattle.big5_decoder.specs.Standard.{decodeOf}
 use Rattle.big5.specs.Scoring.{besideOf, hanziWeight, scored, extensionOf, isExtension, extends, after, strayOf, onEvent, Lent, stepOf}
-use Rattle.big5.specs.Big5.{Small}
+use Rattle.big5.specs.Big5.{SmallScale}
 use Rattle.big5.specs.declared.Big5.{Big5}
 use Rattle.big5.specs.declared.LatinCj.{LatinCj}
 use Rattle.big5.specs.declared.LatinCj.the-variants.{AsciiLetter, Cj, Other}
 use Rattle.big5.specs.declared.Scale.{Scale}
 
 -- ---- sizes
-pub pick-small : (t : Bool) (a b : ℤ) (n : ℕ) → natAbs a ≤ n → natAbs b ≤ n → natAbs (cond t a b) ≤ n
-pick-small true a b n p q = p
-pick-small false a b n p q = q
-
-module _ (w : Scale) (small : Small w) where
+module _ (w : Scale) (small : SmallScale w) where
   pub beside-small : (prev : LatinCj) → natAbs (besideOf w prev) ≤ term
   beside-small AsciiLetter = small .adjacency
   beside-small Cj = omega arith
@@ -38,7 +35,7 @@ module _ (w : Scale) (small : Small w) where
 
   pub hanzi-small : (byte : ℕ) → natAbs (hanziWeight w byte) ≤ term
   unfolding hanziWeight
-  hanzi-small byte = pick-small (between 0xA4 0xC6 byte) (w .level1) (w .hanzi) term (small .level1) (small .hanzi)
+  hanzi-small byte = picked (λ z. natAbs z ≤ term) (between 0xA4 0xC6 byte) (small .level1) (small .hanzi)
 
   -- ---- a Hanzi's sums, and those of an unmapped pair
   module _ (m : Big5) (held : SmallHeld (m .held)) where
@@ -86,7 +83,7 @@ module _ (w : Scale) (m : Big5) (lead b length : ℕ) where
   unfolding strayOf
   stray-alone e p q = rw (e, eq-eqb length 1 p, eq-eqb b 0xFF q)
 
-  pub stray-none : extends (m .«prev_byte») b ≡ false → (length ≡ 1 → ⊥) ⊎ (b ≡ 0xFF → ⊥) → none dropout ≡ strayOf w m lead b length
+  pub stray-none : extends (m .«prev_byte») b ≡ false → (length ≡ 1 → ⊥) ⊎ (b ≡ 0xFF → ⊥) → dropped ≡ strayOf w m lead b length
   unfolding strayOf
   stray-none e (inl p) = rw (e, ne-eqb length 1 p)
   stray-none e (inr p) = rw (e, ne-eqb b 0xFF p, and-no (eqb length 1))

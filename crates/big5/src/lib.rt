@@ -3,14 +3,14 @@ ghost use mathlib.Core.Path.{_≡_};
 ghost use mathlib.Core.Bool.{true};
 ghost use Prim.Native.Nat.{_*_, _≤_, _<_};
 ghost use lib.IntN.{pos, natAbs};
-ghost use lib.ListN.{length, getD};
-ghost use Rattle.laws.specs.Run.{live, run};
-ghost use Rattle.pairs.specs.Pairs.{isLeadOrNone, SmallHeld};
+ghost use lib.ListN.{length};
+ghost use Rattle.laws.specs.Run.{alive, run};
+ghost use Rattle.pairs.specs.Pairs.{SmallHeld};
 ghost use Rattle.laws.specs.Limit.{limit};
 ghost use Rattle.weights.specs.Weights.{term, perByte};
-ghost use Rattle.lengths.specs.Lengths.{weightCount, big5Count};
-ghost use Rattle.big5.specs.Scoring.{scaleOf, isHanzi, isDistinct, besideOf, holdsOf, hanziWeight, letterOf, hanziOf, otherOf, unitOf, pointOf, unmappedOf, extensionOf, isPair, isExtension, after as afterOf, strayOf, errorOf, onEvent, lent, freshOf, stepOf, scored};
-ghost use Rattle.big5.specs.Big5.{Sound, soundB, Small, outOf, ranAs, Bounded, Weighed, readyB, Ready, ranOf, closedOf};
+ghost use Rattle.lengths.specs.Lengths.{big5Count};
+ghost use Rattle.big5.specs.Scoring.{scaleOf, isHanzi, isDistinct, besideOf, holdsOf, hanziWeight, letterOf, hanziOf, otherOf, unitOf, pointOf, unmappedOf, extensionOf, isPair, isExtension, after as afterOf, strayOf, errorOf, lent, freshOf, stepOf, scored};
+ghost use Rattle.big5.specs.Big5.{Sound, soundB, SmallScale, outOf, ranAs, Small, Weighed, readyB, ranOf, closedOf};
 use pairs::Event;
 use pairs::Held;
 
@@ -88,7 +88,7 @@ fn is_distinct(u: u32) -> bool
 impl Scale {
     fn read(weights: &[i32]) -> Scale
         ensures { λ r. ⌜ r ≡ scaleOf (now (weights .entry)) ⌝ }
-        ensures { λ r. ⌜ Small r ⌝ }
+        ensures { λ r. ⌜ SmallScale r ⌝ }
     {
         Scale {
             adjacency: weights::weight(weights, weights::CJK_LATIN_ADJACENCY),
@@ -168,7 +168,7 @@ impl Big5 {
 
     // A Hanzi releases what is held, and its own score may be held in turn.
     fn hanzi(self, own: i64, w: Scale) -> Scored
-        requires { ⌜ Small w ⌝ }
+        requires { ⌜ SmallScale w ⌝ }
         requires { ⌜ SmallHeld (self .held) ⌝ }
         requires { ⌜ natAbs own ≤ term ⌝ }
         ensures { λ r. ⌜ r ≡ hanziOf w self own ⌝ }
@@ -206,7 +206,7 @@ impl Big5 {
 
     // A code point that is one unit.
     fn unit(self, u: u32, w: Scale) -> Scored
-        requires { ⌜ Small w ⌝ }
+        requires { ⌜ SmallScale w ⌝ }
         requires { ⌜ SmallHeld (self .held) ⌝ }
         ensures { λ r. ⌜ r ≡ unitOf w self u ⌝ }
     {
@@ -231,7 +231,7 @@ impl Big5 {
 
     // A code point that is a pair of units is a Hanzi.
     fn point(self, point: u32, w: Scale) -> Scored
-        requires { ⌜ Small w ⌝ }
+        requires { ⌜ SmallScale w ⌝ }
         requires { ⌜ SmallHeld (self .held) ⌝ }
         ensures { λ r. ⌜ r ≡ pointOf w self point ⌝ }
     {
@@ -243,7 +243,7 @@ impl Big5 {
 
     // A pair in Big5's range that is not mapped counts as a Hanzi of private use.
     fn unmapped(self, w: Scale) -> Scored
-        requires { ⌜ Small w ⌝ }
+        requires { ⌜ SmallScale w ⌝ }
         requires { ⌜ SmallHeld (self .held) ⌝ }
         ensures { λ r. ⌜ r ≡ unmappedOf w self ⌝ }
     {
@@ -279,7 +279,7 @@ fn is_extension(prev_byte: u8) -> bool
 
 // An extension byte with the byte after it: ASCII, or the extension FF, which counts too.
 fn extension(b: u8, w: Scale) -> Scored
-    requires { ⌜ Small w ⌝ }
+    requires { ⌜ SmallScale w ⌝ }
     ensures { λ r. ⌜ r ≡ extensionOf w b ⌝ }
 {
     if b == 0xFF {
@@ -323,7 +323,7 @@ fn after(lead: u8, b: u8, s: Scored) -> Stepped
 impl Big5 {
     // An error that is no pair in range: an extension, or the machine drops out.
     fn stray(self, lead: u8, b: u8, size: u8, w: Scale) -> Stepped
-        requires { ⌜ Small w ⌝ }
+        requires { ⌜ SmallScale w ⌝ }
         ensures { λ r. ⌜ outOf r ≡ strayOf w self lead b size ⌝ }
     {
         if is_extension(self.prev_byte) {
@@ -351,7 +351,7 @@ impl Big5 {
     }
 
     fn error(self, lead: u8, b: u8, size: u8, w: Scale) -> Stepped
-        requires { ⌜ Small w ⌝ }
+        requires { ⌜ SmallScale w ⌝ }
         requires { ⌜ SmallHeld (self .held) ⌝ }
         ensures { λ r. ⌜ outOf r ≡ errorOf w self lead b size ⌝ }
     {
@@ -362,7 +362,7 @@ impl Big5 {
     }
 
     fn step(self, b: u8, index: &[u32], w: Scale) -> Stepped
-        requires { ⌜ Small w ⌝ }
+        requires { ⌜ SmallScale w ⌝ }
         requires { ⌜ Sound limit self ⌝ }
         requires { ⌜ length (now index) ≡ big5Count ⌝ }
         ensures { λ r. ⌜ outOf r ≡ stepOf (lent (now (index .entry)) w) self b ⌝ }
@@ -394,13 +394,13 @@ impl Big5 {
         )
     }
 
-    fn go(self, part: &[u8], index: &[u32], w: Scale) -> Ran
-        requires { ⌜ Small w ⌝ }
+    fn feed(self, part: &[u8], index: &[u32], w: Scale) -> Ran
+        requires { ⌜ SmallScale w ⌝ }
         requires { ⌜ Sound limit self ⌝ }
         requires { ⌜ length (now part) ≤ limit ⌝ }
         requires { ⌜ length (now index) ≡ big5Count ⌝ }
-        ensures { λ r. ⌜ r ≡ ranAs (run (stepOf (lent (now (index .entry)) w)) (live self (pos 0)) (now (part .entry))) ⌝ }
-        ensures { λ r. ⌜ Bounded (perByte * length (now (part .entry))) r ⌝ }
+        ensures { λ r. ⌜ r ≡ ranAs (run (stepOf (lent (now (index .entry)) w)) (alive self) (now (part .entry))) ⌝ }
+        ensures { λ r. ⌜ Small (perByte * length (now (part .entry))) r ⌝ }
     {
         let mut m = self;
         let mut s: i64 = 0;
@@ -424,20 +424,17 @@ impl Big5 {
     pub fn is_sound_for(self, bytes: u64) -> bool
         ensures { λ r. ⌜ r ≡ soundB bytes self ⌝ }
     {
-        if pairs::is_lead_or_none(self.lead) {
-            let held = self.held;
-            return held.is_small();
-        }
-        false
+        let held = self.held;
+        pairs::is_lead_or_none(self.lead) && held.is_small()
     }
 
     pub fn run(self, part: &[u8], index: &[u32], weights: &[i32]) -> Ran
         ensures { λ r. ⌜ r ≡ ranOf (now (index .entry)) (now (weights .entry)) self (now (part .entry)) ⌝ }
-        ensures { λ r. ⌜ Bounded (perByte * length (now (part .entry))) r ⌝ }
+        ensures { λ r. ⌜ Small (perByte * length (now (part .entry))) r ⌝ }
         ensures { λ r. ⌜ Weighed (now (weights .entry)) r ⌝ }
     {
         if is_ready(self, part, index, weights) {
-            return self.go(part, index, Scale::read(weights));
+            return self.feed(part, index, Scale::read(weights));
         }
         Ran::Unfit
     }
@@ -460,12 +457,7 @@ impl Big5 {
 fn is_ready(m: Big5, part: &[u8], index: &[u32], weights: &[i32]) -> bool
     ensures { λ r. ⌜ r ≡ readyB (now (index .entry)) (now (weights .entry)) m (now (part .entry)) ⌝ }
 {
-    if m.is_sound_for(lengths::LIMIT) {
-        if part.len() <= lengths::MOST {
-            if index.len() == lengths::BIG5 {
-                return weights.len() == lengths::WEIGHTS;
-            }
-        }
-    }
-    false
+    m.is_sound_for(lengths::LIMIT)
+        && (part.len() <= lengths::MOST
+            && (index.len() == lengths::BIG5 && weights.len() == lengths::WEIGHTS))
 }

@@ -1,14 +1,14 @@
 -- The caseless machine: what one byte does, a part of a chunk, and the close. Assumes nothing.
-use mathlib.Core.Bool.{Bool, true, cond}
+use mathlib.Core.Bool.{Bool, true}
 use mathlib.Core.List.{List}
-use Prim.Native.Nat.{ℕ, _≤_}
-use lib.IntN.{ℤ, pos, natAbs}
-use lib.ListN.{length}
-use Rattle.laws.specs.Run.{Outcome, none, live, run}
+use Prim.Native.Nat.{ℕ}
+use Rattle.laws.specs.Answer.{Answer, ran, unfit, answered, SmallBy}
+use Rattle.laws.specs.Run.{Outcome, live, dropped}
 use Rattle.octets.specs.Octets.{ascii}
-use Rattle.single.specs.Class.{caselessOf, alphabetic, unless255, space}
+use Rattle.single.specs.Class.{caselessOf, alphabetic, unless255}
 use Rattle.laws.specs.Limit.{room}
-use Rattle.single.specs.Fit.{Common, commonB, fitB}
+use Rattle.single.specs.Answers.{closeBy, ranBy, closedBy}
+use Rattle.single.specs.Fit.{Common, commonB}
 use Rattle.single.specs.Lent.{Lent}
 use Rattle.single.specs.Pair.{gainOf}
 use Rattle.single.specs.Words.{wordOf, longestOf}
@@ -32,9 +32,8 @@ module _ (t : Lent) where
   unfoldable pub stepOf : Caseless → ℕ → Outcome Caseless
   stepOf m b = unless255 t b (live (nextOf m b) (gainOf t (m .prev) (m .«prev_ascii») b))
 
-  -- the end of the stream is a space
-  abbrev pub closeOf : Caseless → Outcome Caseless
-  closeOf m = stepOf m space
+abbrev pub closeOf : Lent → Caseless → Outcome Caseless
+closeOf t m = closeBy stepOf t m
 
 -- what n bytes can have led to
 abbrev pub Sound : ℕ → Caseless → Type 0
@@ -44,18 +43,20 @@ abbrev pub soundB : ℕ → Caseless → Bool
 soundB n m = commonB n (m .prev) (m .«current_word_len») (m .«longest_word»)
 
 -- ---- the answers
+abbrev pub answerOf : Ran → Answer Caseless
+answerOf (Live m s) = ran (live m s)
+answerOf Dropped = ran dropped
+answerOf Unfit = unfit
+
 abbrev pub ranAs : Outcome Caseless → Ran
-ranAs (none d) = Dropped
-ranAs (live m s) = Live m s
+ranAs o = answered Live Dropped o
 
 unfoldable pub ranOf : Lent → Caseless → List ℕ → Ran
-ranOf t m xs = cond (fitB t (soundB room m) (length xs)) (ranAs (run (stepOf t) (live m (pos 0)) xs)) Unfit
+ranOf t m xs = ranBy stepOf (soundB room) Live Dropped Unfit t m xs
 
 unfoldable pub closedOf : Lent → Caseless → Ran
-closedOf t m = cond (fitB t (soundB room m) 0) (ranAs (closeOf t m)) Unfit
+closedOf t m = closedBy stepOf (soundB room) Live Dropped Unfit t m
 
--- a live answer's score has at most this size
+-- a live answer's score changes by at most c
 abbrev pub Small : ℕ → Ran → Type 0
-Small c (Live m s) = natAbs s ≤ c
-Small c Dropped = Unit {0}
-Small c Unfit = Unit {0}
+Small c r = SmallBy c (answerOf r)

@@ -8,6 +8,7 @@ use lib.Dec.{ltb}
 use borrow.Author.Tests.{le-ltb}
 use lib.IntN.{ℤ, pos, _+ℤ_, +ℤ-idl, +ℤ-idr, +ℤ-assoc, +ℤ-comm}
 use lib.ListN.{getD}
+use Rattle.laws.specs.Tests.{picked}
 use Rattle.laws.specs.Run.{Outcome, live, plus, plus-plus, feed, run, run-plus}
 use Rattle.laws.specs.Still.{Lives}
 use Rattle.octets.specs.Octets.{between}
@@ -72,10 +73,6 @@ more-pick : (l : ℤ) (t : Bool) (a b a₀ b₀ : Scored) → a ≡ more l a₀ 
 more-pick l true a b a₀ b₀ p q = p
 more-pick l false a b a₀ b₀ p q = q
 
-word-pick : (t : Bool) (a b : Scored) (n : ℕ) → a .word ≡ n → b .word ≡ n → cond t a b .word ≡ n
-word-pick true a b n p q = p
-word-pick false a b n p q = q
-
 module _ (w : Scale) (m : EucKr) where
   abbrev l : ℤ
   l = longOf w (m .«current_word_len» + 1)
@@ -111,8 +108,8 @@ module _ (w : Scale) (m : EucKr) where
   hangul-word : (extras : List ℤ) (u b : ℕ) → hangulOf w m extras u b .word ≡ m .«current_word_len» + 1
   unfolding hangulOf innerOf outerOf
   hangul-word extras u b =
-      word-pick (m .«prev_was_euc_range» && isEuc b) (innerOf w m (extraOf extras u)) (outerOf w m) (m .«current_word_len» + 1) refl
-      (word-pick (holdsOf m) (scored Hangul (m .«current_word_len» + 1) (Score (w .outer)) (aroundOf w m)) (scored Hangul (m .«current_word_len» + 1) Nothing (aroundOf w m +ℤ w .outer)) (m .«current_word_len» + 1) refl refl)
+      picked (λ (s : Scored). s .word ≡ (m .«current_word_len» + 1)) (m .«prev_was_euc_range» && isEuc b) refl
+      (picked (λ (s : Scored). s .word ≡ (m .«current_word_len» + 1)) (holdsOf m) refl refl)
 
 -- ---- a pair of bytes that is a Hangul
 unit-hangul : (w : Scale) (extras : List ℤ) (m : EucKr) (u b : ℕ) → isHangul u ≡ true → unitOf w extras m u b ≡ hangulOf w m extras u b

@@ -4,9 +4,10 @@ use mathlib.Core.Bool.{Bool, true, cond, _&&_}
 use mathlib.Core.List.{List}
 use Prim.Native.Nat.{ℕ, _≤_}
 use lib.Dec.{leb, eqb}
-use lib.IntN.{ℤ, pos, natAbs}
+use lib.IntN.{ℤ, natAbs}
 use lib.ListN.{length}
-use Rattle.laws.specs.Run.{dropout, Outcome, none, live, run}
+use Rattle.laws.specs.Answer.{Answer, ran, unfit, answered, answeredIf, Told, SmallBy}
+use Rattle.laws.specs.Run.{Outcome, live, alive, dropped, run}
 use Rattle.pairs.specs.Pairs.{isLeadOrNone, releasedOf, smallHeldB}
 use Rattle.laws.specs.Limit.{limit, room}
 use Rattle.weights.specs.Weights.{term, perByte}
@@ -29,7 +30,7 @@ unfoldable pub soundB : ℕ → EucKr → Bool
 soundB n m = isLeadOrNone (m .lead) && (leb (m .«current_word_len») n && smallHeldB (m .held))
 
 -- weights of 32 bits
-pub record Small (w : Scale) : Type 0 where
+pub record SmallScale (w : Scale) : Type 0 where
   pub adjacency : natAbs (w .adjacency) ≤ term
   pub other : natAbs (w .other) ≤ term
   pub hangul : natAbs (w .hangul) ≤ term
@@ -44,28 +45,27 @@ pub record Small (w : Scale) : Type 0 where
 -- ---- answers, as outcomes
 abbrev pub outOf : Stepped → Outcome EucKr
 outOf (SteppedLive m s) = live m s
-outOf SteppedDropped = none dropout
+outOf SteppedDropped = dropped
 
 -- a live outcome's change of the score is at most five terms
 abbrev pub Slight : Outcome EucKr → Type 0
-Slight (live m g) = natAbs g ≤ perByte
-Slight (none d) = Unit {0}
+Slight o = SmallBy perByte (ran o)
+
+abbrev pub answerOf : Ran → Answer EucKr
+answerOf (Live m s) = ran (live m s)
+answerOf Dropped = ran dropped
+answerOf Unfit = unfit
 
 abbrev pub ranAs : Outcome EucKr → Ran
-ranAs (live m s) = Live m s
-ranAs (none d) = Dropped
+ranAs o = answered Live Dropped o
 
--- a live answer's change of the score is at most c in size
-abbrev pub Bounded : ℕ → Ran → Type 0
-Bounded c (Live m s) = natAbs s ≤ c
-Bounded c Dropped = Unit {0}
-Bounded c Unfit = Unit {0}
+-- a live answer's score changes by at most c
+abbrev pub Small : ℕ → Ran → Type 0
+Small c r = SmallBy c (answerOf r)
 
 -- a live answer came of weights of 32 bits
 abbrev pub Weighed : List ℤ → Ran → Type 0
-Weighed weights (Live m s) = Small (scaleOf weights)
-Weighed weights Dropped = Unit {0}
-Weighed weights Unfit = Unit {0}
+Weighed weights r = Told (λ m s. SmallScale (scaleOf weights)) (answerOf r)
 
 -- ---- a run and a close
 abbrev pub lentB : List ℕ → List ℤ → List ℤ → Bool
@@ -84,11 +84,11 @@ pub record Ready (index : List ℕ) (extras weights : List ℤ) (m : EucKr) (xs 
 
 -- the score starts from 0: what a run gives is its change
 unfoldable pub ranOf : List ℕ → List ℤ → List ℤ → EucKr → List ℕ → Ran
-ranOf index extras weights m xs = cond (readyB index extras weights m xs) (ranAs (run (stepOf (lent index extras (scaleOf weights))) (live m (pos 0)) xs)) Unfit
+ranOf index extras weights m xs = answeredIf Live Dropped Unfit (readyB index extras weights m xs) (run (stepOf (lent index extras (scaleOf weights))) (alive m) xs)
 
 -- the end of the stream: none where a lead is pending; a held score counts nothing, and stays
 abbrev pub closeOf : EucKr → Outcome EucKr
-closeOf m = cond (eqb (m .lead) 0) (live m (pos 0)) (none dropout)
+closeOf m = cond (eqb (m .lead) 0) (alive m) dropped
 
 unfoldable pub closedOf : EucKr → Ran
-closedOf m = cond (soundB room m) (ranAs (closeOf m)) Unfit
+closedOf m = answeredIf Live Dropped Unfit (soundB room m) (closeOf m)

@@ -1,34 +1,34 @@
--- Laws of the EUC-KR machine: what a record holds is kept, a byte adds at most five terms, the tests decide, a run joins. Assumes nothing.
+-- Laws of the EUC-KR machine: what a record holds is kept, a byte adds at most five terms, the tests decide. Assumes nothing.
 use mathlib.Core.Path.{_≡_}
-use mathlib.Core.Bool.{Bool, true, false, cond, _&&_}
-use mathlib.Core.List.{List, _++_}
+use mathlib.Core.Bool.{true, _&&_}
+use mathlib.Core.List.{List}
 use Prim.Native.Nat.{ℕ, _+_, _≤_}
 use native.Mathlib.Omega.{arith}
 use lib.Dec.{leb, eqb}
-use lib.IntN.{ℤ, pos, natAbs, _+ℤ_}
+use lib.IntN.{ℤ, pos, natAbs}
 use lib.ListN.{length}
 use borrow.Author.Tests.{leb-true, le-leb, eqb-true, eq-eqb}
-use Rattle.laws.specs.Tests.{both}
-use Rattle.laws.specs.Run.{dropout, Outcome, none, live, run, run-append, Within}
+use Rattle.laws.specs.Tests.{both, picked}
+use Rattle.laws.specs.Answer.{if-fit}
+use Rattle.laws.specs.Carried.{Holds}
+use Rattle.laws.specs.Run.{Outcome, none, live, run, Within, alive}
 use Rattle.laws.specs.Sizes.{abs-add}
 use Rattle.octets.specs.Octets.{ascii, letter}
 use Rattle.pairs.specs.Pairs.{isLeadOrNone, SmallHeld, smallHeldB}
 use Rattle.pairs.specs.PairsLaws.{handler-lead, held-true, true-held}
 use Rattle.pairs.specs.declared.Event.{Event}
 use Rattle.pairs.specs.declared.Event.the-variants.{Pending, Point, Two, Error}
-use Rattle.pairs.specs.declared.Held.the-variants.{Nothing, Score}
+use Rattle.pairs.specs.declared.Held.the-variants.{Nothing}
 use Rattle.laws.specs.Limit.{limit, room}
 use Rattle.weights.specs.Weights.{term, perByte}
 use Rattle.lengths.specs.Lengths.{weightCount, eucKrCount, extraCount}
 use Rattle.euckr_decoder.specs.Standard.{layout, pointsOf, decodeOf}
-use Rattle.euckr.specs.Scoring.{scaleOf, extraOf, isEuc, isHangul, isHanja, scored, holdsOf, letterOf, aroundOf, innerOf, outerOf, hangulOf, hanjaOf, otherOf, unitOf, isUserPair, isMacSymbol, isLone, extends, extensionOf, after, strayOf, errorOf, onEvent, Lent, lent, stepOf}
-use Rattle.euckr.specs.EucKr.{Sound, soundB, Small, Slight, ranAs, Weighed, readyB, Ready, ranOf}
-use Rattle.euckr.specs.Ways.{gain-pick, letter-small, hangul-small, hanja-small, other-small}
+use Rattle.euckr.specs.Scoring.{scaleOf, extraOf, isEuc, isHangul, isHanja, scored, holdsOf, letterOf, innerOf, outerOf, hangulOf, hanjaOf, otherOf, unitOf, isUserPair, isMacSymbol, isLone, extends, extensionOf, after, strayOf, errorOf, onEvent, Lent, lent, stepOf}
+use Rattle.euckr.specs.EucKr.{Sound, soundB, SmallScale, Slight, ranAs, readyB, Ready, ranOf, closeOf, closedOf}
+use Rattle.euckr.specs.Ways.{FewTerms, letter-small, hangul-small, hanja-small, other-small}
 use Rattle.euckr.specs.declared.EucKr.{EucKr}
 use Rattle.euckr.specs.declared.LatinKorean.{LatinKorean}
 use Rattle.euckr.specs.declared.LatinKorean.the-variants.{AsciiLetter, Hangul, Hanja, Other}
-use Rattle.euckr.specs.declared.Ran.{Ran}
-use Rattle.euckr.specs.declared.Ran.the-variants.{Live, Dropped, Unfit}
 use Rattle.euckr.specs.declared.Scale.{Scale}
 use Rattle.euckr.specs.declared.Scored.{Scored}
 
@@ -62,43 +62,26 @@ module _ (index : List ℕ) (extras weights : List ℤ) (m : EucKr) (xs : List �
   true-ready r = rw (true-sound room m (r .sound), le-leb _ _ (r .short), eq-eqb _ _ (r .index-length), eq-eqb _ _ (r .extras-length), eq-eqb _ _ (r .weights-length))
 
   -- what a caller that has tested uses
-  pub ran-ready : Ready index extras weights m xs → ranOf index extras weights m xs ≡ ranAs (run (stepOf (lent index extras (scaleOf weights))) (live m (pos 0)) xs)
+  pub ran-ready : Ready index extras weights m xs → ranOf index extras weights m xs ≡ ranAs (run (stepOf (lent index extras (scaleOf weights))) (alive m) xs)
   unfolding ranOf
-  ran-ready r = rw (true-ready r)
+  ran-ready r = if-fit _ _ _ _ _ (true-ready r)
 
-  pub ran-unfit : readyB index extras weights m xs ≡ false → ranOf index extras weights m xs ≡ Unfit
-  unfolding ranOf
-  ran-unfit e = rw e
+pub closed-ready : (m : EucKr) → Sound room m → closedOf m ≡ ranAs (closeOf m)
+unfolding closedOf
+closed-ready m s = if-fit _ _ _ _ _ (true-sound room m s)
 
 -- ---- a byte leaves a record that EUC-KR can hold, with a word at most one longer
 pub record Kept (n : ℕ) (s : Scored) : Type 0 where
   pub word-most : s .word ≤ n + 1
   pub held-small : SmallHeld (s .held)
 
-kept-pick : (n : ℕ) (t : Bool) (a b : Scored) → Kept n a → Kept n b → Kept n (cond t a b)
-kept-pick n true a b p q = p
-kept-pick n false a b p q = q
-
--- the record of a live outcome is sound
-abbrev pub SoundOut : ℕ → Outcome EucKr → Type 0
-SoundOut n (live m g) = Sound n m
-SoundOut n (none d) = Unit {0}
-
-sound-pick : (n : ℕ) (t : Bool) (a b : Outcome EucKr) → SoundOut n a → SoundOut n b → SoundOut n (cond t a b)
-sound-pick n true a b p q = p
-sound-pick n false a b p q = q
-
-slight-pick : (t : Bool) (a b : Outcome EucKr) → Slight a → Slight b → Slight (cond t a b)
-slight-pick true a b p q = p
-slight-pick false a b p q = q
-
 plain-kept : (n : ℕ) (k : LatinKorean) (g : ℤ) → Kept n (scored k 0 Nothing g)
 plain-kept n k g = record { word-most = omega arith; held-small = omega arith }
 
-after-sound : (n lead b : ℕ) (s : Scored) → isLeadOrNone lead ≡ true → Kept n s → SoundOut (n + 1) (after lead b s)
+after-sound : (n lead b : ℕ) (s : Scored) → isLeadOrNone lead ≡ true → Kept n s → Holds (Sound (n + 1)) (after lead b s)
 after-sound n lead b s e k = record { lead-fits = e; word-most = k .word-most; held-small = k .held-small }
 
-module _ (w : Scale) (small : Small w) (n : ℕ) (m : EucKr) (most : m .«current_word_len» ≤ n) where
+module _ (w : Scale) (small : SmallScale w) (n : ℕ) (m : EucKr) (most : m .«current_word_len» ≤ n) where
   grown-kept : (k : LatinKorean) (g : ℤ) → Kept n (scored k (m .«current_word_len» + 1) Nothing g)
   grown-kept k g = record { word-most = omega arith; held-small = omega arith }
 
@@ -109,8 +92,8 @@ module _ (w : Scale) (small : Small w) (n : ℕ) (m : EucKr) (most : m .«curren
   hangul-kept : (extras : List ℤ) (u b : ℕ) → Kept n (hangulOf w m extras u b)
   unfolding hangulOf innerOf outerOf
   hangul-kept extras u b =
-      kept-pick n (m .«prev_was_euc_range» && isEuc b) (innerOf w m (extraOf extras u)) (outerOf w m) (grown-kept Hangul _)
-      (kept-pick n (holdsOf m) (scored Hangul (m .«current_word_len» + 1) (Score (w .outer)) (aroundOf w m)) (scored Hangul (m .«current_word_len» + 1) Nothing (aroundOf w m +ℤ w .outer)) (record { word-most = omega arith; held-small = small .outer }) (grown-kept Hangul _))
+      picked (Kept n) (m .«prev_was_euc_range» && isEuc b) (grown-kept Hangul _)
+      (picked (Kept n) (holdsOf m) (record { word-most = omega arith; held-small = small .outer }) (grown-kept Hangul _))
 
   hanja-kept : (own : ℤ) → Kept n (hanjaOf w m own)
   unfolding hanjaOf
@@ -123,57 +106,57 @@ module _ (w : Scale) (small : Small w) (n : ℕ) (m : EucKr) (most : m .«curren
   unit-kept : (extras : List ℤ) (u b : ℕ) → Kept n (unitOf w extras m u b)
   unfolding unitOf
   unit-kept extras u b =
-      kept-pick n (letter u) (letterOf w m) _ letter-kept
-      (kept-pick n (isHangul u) (hangulOf w m extras u b) _ (hangul-kept extras u b)
-      (kept-pick n (isHanja u) (hanjaOf w m (w .hanja)) _ (hanja-kept (w .hanja))
-      (kept-pick n (ascii u) (scored Other 0 Nothing (pos 0)) (otherOf m (w .other)) (plain-kept n Other (pos 0)) (other-kept (w .other)))))
+      picked (Kept n) (letter u) letter-kept
+      (picked (Kept n) (isHangul u) (hangul-kept extras u b)
+      (picked (Kept n) (isHanja u) (hanja-kept (w .hanja))
+      (picked (Kept n) (ascii u) (plain-kept n Other (pos 0)) (other-kept (w .other)))))
 
   extension-kept : (b : ℕ) → Kept n (extensionOf w b)
   unfolding extensionOf
   extension-kept b =
-      kept-pick n (isLone b) (scored Other 0 Nothing (w .extension +ℤ w .extension)) _ (plain-kept n Other _)
-      (kept-pick n (letter b) (scored AsciiLetter 0 Nothing (w .extension)) (scored Other 0 Nothing (w .extension)) (plain-kept n AsciiLetter _) (plain-kept n Other _))
+      picked (Kept n) (isLone b) (plain-kept n Other _)
+      (picked (Kept n) (letter b) (plain-kept n AsciiLetter _) (plain-kept n Other _))
 
   module _ (held : SmallHeld (m .held)) (lead b : ℕ) (fits : isLeadOrNone lead ≡ true) where
-    error-sound : (k : ℕ) → SoundOut (n + 1) (errorOf w m lead b k)
+    error-sound : (k : ℕ) → Holds (Sound (n + 1)) (errorOf w m lead b k)
     unfolding errorOf strayOf
     error-sound k =
-        sound-pick (n + 1) (isUserPair (m .«prev_byte») b) (after lead b (hanjaOf w m (w .pua))) _ (after-sound n lead b (hanjaOf w m (w .pua)) fits (hanja-kept (w .pua)))
-        (sound-pick (n + 1) (isMacSymbol (m .«prev_byte») b) (after lead b (otherOf m (w .mac))) _ (after-sound n lead b (otherOf m (w .mac)) fits (other-kept (w .mac)))
-        (sound-pick (n + 1) (extends (m .«prev_byte») b) (after lead b (extensionOf w b)) _ (after-sound n lead b (extensionOf w b) fits (extension-kept b))
-        (sound-pick (n + 1) (eqb k 1 && isLone b) (after lead b (scored Other 0 Nothing (w .extension))) (none dropout) (after-sound n lead b (scored Other 0 Nothing (w .extension)) fits (plain-kept n Other _)) tt)))
+        picked (Holds (Sound (n + 1))) (isUserPair (m .«prev_byte») b) (after-sound n lead b (hanjaOf w m (w .pua)) fits (hanja-kept (w .pua)))
+        (picked (Holds (Sound (n + 1))) (isMacSymbol (m .«prev_byte») b) (after-sound n lead b (otherOf m (w .mac)) fits (other-kept (w .mac)))
+        (picked (Holds (Sound (n + 1))) (extends (m .«prev_byte») b) (after-sound n lead b (extensionOf w b) fits (extension-kept b))
+        (picked (Holds (Sound (n + 1))) (eqb k 1 && isLone b) (after-sound n lead b (scored Other 0 Nothing (w .extension)) fits (plain-kept n Other _)) tt)))
 
-    event-sound : (extras : List ℤ) (e : Event) → SoundOut (n + 1) (onEvent w m extras lead b e)
+    event-sound : (extras : List ℤ) (e : Event) → Holds (Sound (n + 1)) (onEvent w m extras lead b e)
     event-sound extras Pending = record { lead-fits = fits; word-most = omega arith; held-small = held }
     event-sound extras (Point p) = after-sound n lead b (unitOf w extras m p b) fits (unit-kept extras p b)
     event-sound extras (Two p q) = after-sound n lead b (unitOf w extras m p b) fits (unit-kept extras p b)
     event-sound extras (Error k) = error-sound k
 
 -- ---- a byte adds at most five terms
-module _ (w : Scale) (small : Small w) (m : EucKr) (held : SmallHeld (m .held)) where
-  extension-small : (b : ℕ) → natAbs (extensionOf w b .gain) ≤ perByte
+module _ (w : Scale) (small : SmallScale w) (m : EucKr) (held : SmallHeld (m .held)) where
+  extension-small : (b : ℕ) → FewTerms (extensionOf w b)
   unfolding extensionOf
   extension-small b =
       let e = w .extension in
-      gain-pick (isLone b) (scored Other 0 Nothing (e +ℤ e)) _ perByte (omega (arith, abs-add e e, small .extension))
-      (gain-pick (letter b) (scored AsciiLetter 0 Nothing e) (scored Other 0 Nothing e) perByte (omega (arith, small .extension)) (omega (arith, small .extension)))
+      picked FewTerms (isLone b) (omega (arith, abs-add e e, small .extension))
+      (picked FewTerms (letter b) (omega (arith, small .extension)) (omega (arith, small .extension)))
 
   pub error-slight : (lead b k : ℕ) → Slight (errorOf w m lead b k)
   unfolding errorOf strayOf
   error-slight lead b k =
-      slight-pick (isUserPair (m .«prev_byte») b) (after lead b (hanjaOf w m (w .pua))) _ (hanja-small w small m held (w .pua) (small .pua))
-      (slight-pick (isMacSymbol (m .«prev_byte») b) (after lead b (otherOf m (w .mac))) _ (other-small w small m held (w .mac) (small .mac))
-      (slight-pick (extends (m .«prev_byte») b) (after lead b (extensionOf w b)) _ (extension-small b)
-      (slight-pick (eqb k 1 && isLone b) (after lead b (scored Other 0 Nothing (w .extension))) (none dropout) (omega (arith, small .extension)) tt)))
+      picked Slight (isUserPair (m .«prev_byte») b) (hanja-small w small m held (w .pua) (small .pua))
+      (picked Slight (isMacSymbol (m .«prev_byte») b) (other-small w small m held (w .mac) (small .mac))
+      (picked Slight (extends (m .«prev_byte») b) (extension-small b)
+      (picked Slight (eqb k 1 && isLone b) (omega (arith, small .extension)) tt)))
 
   module _ (extras : List ℤ) (slight : (u : ℕ) → natAbs (extraOf extras u) ≤ term) where
-    unit-small : (u b : ℕ) → natAbs (unitOf w extras m u b .gain) ≤ perByte
+    unit-small : (u b : ℕ) → FewTerms (unitOf w extras m u b)
     unfolding unitOf
     unit-small u b =
-        gain-pick (letter u) (letterOf w m) _ perByte (letter-small w small m held)
-        (gain-pick (isHangul u) (hangulOf w m extras u b) _ perByte (hangul-small w small m held extras u b (slight u))
-        (gain-pick (isHanja u) (hanjaOf w m (w .hanja)) _ perByte (hanja-small w small m held (w .hanja) (small .hanja))
-        (gain-pick (ascii u) (scored Other 0 Nothing (pos 0)) (otherOf m (w .other)) perByte (omega arith) (other-small w small m held (w .other) (small .other)))))
+        picked FewTerms (letter u) (letter-small w small m held)
+        (picked FewTerms (isHangul u) (hangul-small w small m held extras u b (slight u))
+        (picked FewTerms (isHanja u) (hanja-small w small m held (w .hanja) (small .hanja))
+        (picked FewTerms (ascii u) (omega arith) (other-small w small m held (w .other) (small .other)))))
 
     event-slight : (lead b : ℕ) (e : Event) → Slight (onEvent w m extras lead b e)
     event-slight lead b Pending = omega arith
@@ -182,35 +165,25 @@ module _ (w : Scale) (small : Small w) (m : EucKr) (held : SmallHeld (m .held)) 
     event-slight lead b (Error k) = error-slight lead b k
 
 -- ---- a step, in both respects
-pub step-sound : (t : Lent) → Small (t .scale) → (n : ℕ) (m : EucKr) (b : ℕ) → Sound n m → SoundOut (n + 1) (stepOf t m b)
+pub step-sound : (t : Lent) → SmallScale (t .scale) → (n : ℕ) (m : EucKr) (b : ℕ) → Sound n m → Holds (Sound (n + 1)) (stepOf t m b)
 unfolding stepOf decodeOf
 step-sound t small n m b s =
     let d = decodeOf (t .index) (m .lead) b in
     event-sound (t .scale) small n m (s .word-most) (s .held-small) (d .lead) b (handler-lead layout (pointsOf (t .index)) (m .lead) b) (t .extras) (d .event)
 
-pub step-slight : (t : Lent) → Small (t .scale) → ((u : ℕ) → natAbs (extraOf (t .extras) u) ≤ term) → (n : ℕ) (m : EucKr) (b : ℕ) → Sound n m → Slight (stepOf t m b)
+pub step-slight : (t : Lent) → SmallScale (t .scale) → ((u : ℕ) → natAbs (extraOf (t .extras) u) ≤ term) → (n : ℕ) (m : EucKr) (b : ℕ) → Sound n m → Slight (stepOf t m b)
 unfolding stepOf
 step-slight t small slight n m b s =
     let d = decodeOf (t .index) (m .lead) b in
     event-slight (t .scale) small m (s .held-small) (t .extras) slight (d .lead) b (d .event)
 
-sound-slight : (n : ℕ) (o : Outcome EucKr) → SoundOut n o → Slight o → Within (Sound n) perByte o
+sound-slight : (n : ℕ) (o : Outcome EucKr) → Holds (Sound n) o → Slight o → Within (Sound n) perByte o
 sound-slight n (live m g) p q = (p, q)
 sound-slight n (none d) p q = tt
 
-pub step-within : (t : Lent) → Small (t .scale) → ((u : ℕ) → natAbs (extraOf (t .extras) u) ≤ term) → (n : ℕ) (m : EucKr) (b : ℕ) → Sound n m → Within (Sound (n + 1)) perByte (stepOf t m b)
+pub step-within : (t : Lent) → SmallScale (t .scale) → ((u : ℕ) → natAbs (extraOf (t .extras) u) ≤ term) → (n : ℕ) (m : EucKr) (b : ℕ) → Sound n m → Within (Sound (n + 1)) perByte (stepOf t m b)
 step-within t small slight n m b s = sound-slight (n + 1) (stepOf t m b) (step-sound t small n m b s) (step-slight t small slight n m b s)
 
 -- the same of a step that was live
-pub turn-sound : (t : Lent) → Small (t .scale) → (n : ℕ) (m : EucKr) (b : ℕ) (next : EucKr) (g : ℤ) → Sound n m → stepOf t m b ≡ live next g → Sound (n + 1) next
+pub turn-sound : (t : Lent) → SmallScale (t .scale) → (n : ℕ) (m : EucKr) (b : ℕ) (next : EucKr) (g : ℤ) → Sound n m → stepOf t m b ≡ live next g → Sound (n + 1) next
 turn-sound t small n m b next g s e = rw e at (step-sound t small n m b s)
-
--- ---- the weights that a run has read
-pub weighed : (weights : List ℤ) (r : Ran) → Small (scaleOf weights) → Weighed weights r
-weighed weights (Live m s) h = h
-weighed weights Dropped h = tt
-weighed weights Unfit h = tt
-
--- ---- a run over two parts, one after the other
-pub run-joins : (t : Lent) (o : Outcome EucKr) (xs ys : List ℕ) → run (stepOf t) o (xs ++ ys) ≡ run (stepOf t) (run (stepOf t) o xs) ys
-run-joins t o xs ys = run-append (stepOf t) o xs ys

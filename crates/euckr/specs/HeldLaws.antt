@@ -9,15 +9,15 @@ use native.Mathlib.Omega.{arith}
 use lib.Dec.{eqb}
 use lib.IntN.{ℤ, pos, _+ℤ_}
 use borrow.Author.Tests.{not-true, eq-eqb}
-use Rattle.laws.specs.Tests.{both}
-use Rattle.laws.specs.Run.{dropout, Outcome, none, live}
+use Rattle.laws.specs.Tests.{both, picked}
+use Rattle.laws.specs.Run.{Outcome, none, live, dropped}
 use Rattle.octets.specs.Octets.{ascii, letter}
 use Rattle.pairs.specs.Pairs.{isHeldLead}
 use Rattle.pairs.specs.declared.Event.{Event}
 use Rattle.pairs.specs.declared.Event.the-variants.{Pending, Point, Two, Error}
 use Rattle.pairs.specs.declared.Held.the-variants.{Nothing, Score}
 use Rattle.euckr_decoder.specs.Standard.{decodeOf}
-use Rattle.euckr.specs.Scoring.{extraOf, isEuc, isHangul, isHanja, isAfterHangul, scored, holdsOf, letterOf, aroundOf, innerOf, outerOf, hangulOf, hanjaOf, otherOf, unitOf, isUserPair, isMacSymbol, isLone, extends, extensionOf, after, strayOf, errorOf, onEvent, Lent, stepOf}
+use Rattle.euckr.specs.Scoring.{isEuc, isHangul, isHanja, isAfterHangul, scored, holdsOf, letterOf, aroundOf, innerOf, outerOf, hangulOf, hanjaOf, otherOf, unitOf, isUserPair, isMacSymbol, isLone, extends, extensionOf, after, strayOf, errorOf, onEvent, Lent, stepOf}
 use Rattle.euckr.specs.EucKr.{closeOf}
 use Rattle.euckr.specs.declared.EucKr.{EucKr}
 use Rattle.euckr.specs.declared.LatinKorean.{LatinKorean}
@@ -34,11 +34,6 @@ pub record Why (w : Scale) (m : EucKr) (k : ℤ) : Type 0 where
 module _ (w : Scale) (m : EucKr) where
   Whys : Scored → Type 0
   Whys s = (k : ℤ) → s .held ≡ Score k → Why w m k
-
-  why-pick : (t : Bool) (a b : Scored) → Whys a → Whys b → Whys (cond t a b)
-  unfolding Whys
-  why-pick true a b p q = p
-  why-pick false a b p q = q
 
   why-not : (kind : LatinKorean) (n : ℕ) (g : ℤ) → Whys (scored kind n Nothing g)
   unfolding Whys
@@ -61,21 +56,21 @@ module _ (w : Scale) (m : EucKr) where
 
   why-hangul : (extras : List ℤ) (u b : ℕ) → Whys (hangulOf w m extras u b)
   unfolding hangulOf innerOf
-  why-hangul extras u b = why-pick (m .«prev_was_euc_range» && isEuc b) (innerOf w m (extraOf extras u)) (outerOf w m) (why-not Hangul _ _) why-outer
+  why-hangul extras u b = picked Whys (m .«prev_was_euc_range» && isEuc b) (why-not Hangul _ _) why-outer
 
   why-unit : (extras : List ℤ) (u b : ℕ) → Whys (unitOf w extras m u b)
   unfolding unitOf letterOf otherOf hanjaOf
   why-unit extras u b =
-      why-pick (letter u) (letterOf w m) _ (why-not AsciiLetter 0 _)
-      (why-pick (isHangul u) (hangulOf w m extras u b) _ (why-hangul extras u b)
-      (why-pick (isHanja u) (hanjaOf w m (w .hanja)) _ (why-not Hanja _ _)
-      (why-pick (ascii u) (scored Other 0 Nothing (pos 0)) (otherOf m (w .other)) (why-not Other 0 (pos 0)) (why-not Other 0 _))))
+      picked Whys (letter u) (why-not AsciiLetter 0 _)
+      (picked Whys (isHangul u) (why-hangul extras u b)
+      (picked Whys (isHanja u) (why-not Hanja _ _)
+      (picked Whys (ascii u) (why-not Other 0 (pos 0)) (why-not Other 0 _))))
 
   why-extension : (b : ℕ) → Whys (extensionOf w b)
   unfolding extensionOf
   why-extension b =
-      why-pick (isLone b) (scored Other 0 Nothing (w .extension +ℤ w .extension)) _ (why-not Other 0 _)
-      (why-pick (letter b) (scored AsciiLetter 0 Nothing (w .extension)) (scored Other 0 Nothing (w .extension)) (why-not AsciiLetter 0 _) (why-not Other 0 _))
+      picked Whys (isLone b) (why-not Other 0 _)
+      (picked Whys (letter b) (why-not AsciiLetter 0 _) (why-not Other 0 _))
 
   -- ---- of a step: a score that is held was so already, and the byte is a lead, or it is held anew
   WhyOut : Event → Outcome EucKr → Type 0
@@ -86,12 +81,7 @@ module _ (w : Scale) (m : EucKr) where
   unfolding Whys WhyOut
   why-after v lead b s h k e = inr (h k e)
 
-  out-pick : (v : Event) (t : Bool) (a b : Outcome EucKr) → WhyOut v a → WhyOut v b → WhyOut v (cond t a b)
-  unfolding WhyOut
-  out-pick v true a b p q = p
-  out-pick v false a b p q = q
-
-  why-none : (v : Event) → WhyOut v (none dropout)
+  why-none : (v : Event) → WhyOut v dropped
   unfolding WhyOut
   why-none v = tt
 
@@ -99,10 +89,10 @@ module _ (w : Scale) (m : EucKr) where
   unfolding errorOf strayOf hanjaOf otherOf
   why-error lead b n =
       let v = Error n in
-      out-pick v (isUserPair (m .«prev_byte») b) (after lead b (hanjaOf w m (w .pua))) _ (why-after v lead b (hanjaOf w m (w .pua)) (why-not Hanja _ _))
-      (out-pick v (isMacSymbol (m .«prev_byte») b) (after lead b (otherOf m (w .mac))) _ (why-after v lead b (otherOf m (w .mac)) (why-not Other 0 _))
-      (out-pick v (extends (m .«prev_byte») b) (after lead b (extensionOf w b)) _ (why-after v lead b (extensionOf w b) (why-extension b))
-      (out-pick v (eqb n 1 && isLone b) (after lead b (scored Other 0 Nothing (w .extension))) (none dropout) (why-after v lead b (scored Other 0 Nothing (w .extension)) (why-not Other 0 _)) (why-none v))))
+      picked (WhyOut v) (isUserPair (m .«prev_byte») b) (why-after v lead b (hanjaOf w m (w .pua)) (why-not Hanja _ _))
+      (picked (WhyOut v) (isMacSymbol (m .«prev_byte») b) (why-after v lead b (otherOf m (w .mac)) (why-not Other 0 _))
+      (picked (WhyOut v) (extends (m .«prev_byte») b) (why-after v lead b (extensionOf w b) (why-extension b))
+      (picked (WhyOut v) (eqb n 1 && isLone b) (why-after v lead b (scored Other 0 Nothing (w .extension)) (why-not Other 0 _)) (why-none v))))
 
   why-event : (extras : List ℤ) (lead b : ℕ) (v : Event) → WhyOut v (onEvent w m extras lead b v)
   unfolding WhyOut

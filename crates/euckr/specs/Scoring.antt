@@ -5,7 +5,7 @@ use Prim.Native.Nat.{ℕ, _+_, _-_}
 use lib.Dec.{ltb, eqb}
 use lib.IntN.{ℤ, pos, _+ℤ_}
 use lib.ListN.{getD}
-use Rattle.laws.specs.Run.{dropout, Outcome, none, live}
+use Rattle.laws.specs.Run.{Outcome, live, dropped}
 use Rattle.octets.specs.Octets.{between, ascii, letter}
 use Rattle.pairs.specs.Pairs.{isHeldLead, releasedOf}
 use Rattle.pairs.specs.declared.Event.{Event}
@@ -159,7 +159,7 @@ module _ (w : Scale) (m : EucKr) where
   unfoldable pub strayOf : ℕ → ℕ → ℕ → Outcome EucKr
   strayOf lead b length =
       cond (extends (m .«prev_byte») b) (after lead b (extensionOf w b))
-      (cond (eqb length 1 && isLone b) (after lead b (scored Other 0 Nothing (w .extension))) (none dropout))
+      (cond (eqb length 1 && isLone b) (after lead b (scored Other 0 Nothing (w .extension))) dropped)
 
   unfoldable pub errorOf : ℕ → ℕ → ℕ → Outcome EucKr
   errorOf lead b length =

@@ -1,25 +1,26 @@
 -- What the code's branches need of the definitions: sizes, and sums as the code makes them. Assumes nothing.
 use mathlib.Core.Path.{_≡_, refl, sym, ap, _∙_}
-use mathlib.Core.Bool.{Bool, true, false, cond, _&&_}
+use mathlib.Core.Bool.{Bool, true, false, _&&_}
 use mathlib.Core.List.{List}
 use mathlib.Core.Logic.{_⊎_, inl, inr}
 use Prim.Native.Nat.{ℕ, _+_, _<_, _≤_}
 use native.Mathlib.Omega.{arith}
 use lib.Dec.{ltb, eqb}
-use lib.IntN.{ℤ, pos, natAbs, _+ℤ_}
+use lib.IntN.{ℤ, natAbs, _+ℤ_}
 use borrow.Author.Tests.{eq-eqb, ne-eqb, lt-ltb, le-ltb}
 use mir.Syntax.{w64}
 use mir.Val.{SFits}
-use Rattle.laws.specs.Run.{dropout, none}
+use Rattle.laws.specs.Tests.{picked}
+use Rattle.laws.specs.Run.{dropped}
 use Rattle.pairs.specs.Pairs.{releasedOf, SmallHeld}
 use Rattle.pairs.specs.Sums.{kept, sum-small, sum-fits, sum-read, sum3-small, sum3-fits, sum3-read, sum4-small, sum4-fits, sum4-read}
 use Rattle.pairs.specs.declared.Decoded.{Decoded}
 use Rattle.pairs.specs.declared.Event.{Event}
-use Rattle.pairs.specs.declared.Held.the-variants.{Nothing, Score}
+use Rattle.pairs.specs.declared.Held.the-variants.{Nothing}
 use Rattle.weights.specs.Weights.{term, perByte}
 use Rattle.euckr_decoder.specs.Standard.{decodeOf}
 use Rattle.euckr.specs.Scoring.{extraOf, isEuc, hangulAfter, hanjaAfter, letterAfter, longOf, scored, holdsOf, letterOf, aroundOf, innerOf, outerOf, hangulOf, hanjaOf, otherOf, isExtension, isLone, extends, extensionOf, after, strayOf, onEvent, Lent, stepOf}
-use Rattle.euckr.specs.EucKr.{Small}
+use Rattle.euckr.specs.EucKr.{SmallScale}
 use Rattle.euckr.specs.declared.EucKr.{EucKr}
 use Rattle.euckr.specs.declared.LatinKorean.{LatinKorean}
 use Rattle.euckr.specs.declared.LatinKorean.the-variants.{AsciiLetter, Hangul, Hanja, Other}
@@ -27,15 +28,11 @@ use Rattle.euckr.specs.declared.Scale.{Scale}
 use Rattle.euckr.specs.declared.Scored.{Scored}
 
 -- ---- sizes
-pick-small : (t : Bool) (a b : ℤ) (n : ℕ) → natAbs a ≤ n → natAbs b ≤ n → natAbs (cond t a b) ≤ n
-pick-small true a b n p q = p
-pick-small false a b n p q = q
+-- the score changes by at most five terms
+abbrev pub FewTerms : Scored → Type 0
+FewTerms s = natAbs (s .gain) ≤ perByte
 
-pub gain-pick : (t : Bool) (a b : Scored) (n : ℕ) → natAbs (a .gain) ≤ n → natAbs (b .gain) ≤ n → natAbs (cond t a b .gain) ≤ n
-gain-pick true a b n p q = p
-gain-pick false a b n p q = q
-
-module _ (w : Scale) (small : Small w) where
+module _ (w : Scale) (small : SmallScale w) where
   hangul-after-small : (k : LatinKorean) → natAbs (hangulAfter w k) ≤ term
   hangul-after-small AsciiLetter = small .adjacency
   hangul-after-small Hangul = omega arith
@@ -56,7 +53,7 @@ module _ (w : Scale) (small : Small w) where
 
   long-small : (n : ℕ) → natAbs (longOf w n) ≤ term
   unfolding longOf
-  long-small n = pick-small (ltb 5 n) (w .long) (pos 0) term (small .long) (omega arith)
+  long-small n = picked (λ z. natAbs z ≤ term) (ltb 5 n) (small .long) (omega arith)
 
   -- ---- the sums
   module _ (m : EucKr) (held : SmallHeld (m .held)) where
@@ -96,7 +93,7 @@ module _ (w : Scale) (small : Small w) where
       pub inner-read : kept (kept (kept (aroundOf w m) +ℤ kept (w .hangul)) +ℤ kept extra) ≡ aroundOf w m +ℤ w .hangul +ℤ extra
       inner-read = sum3-read (aroundOf w m) (w .hangul) extra (term + term + term) term term around-small (small .hangul) little (omega arith)
 
-      pub inner-small : natAbs (innerOf w m extra .gain) ≤ perByte
+      pub inner-small : FewTerms (innerOf w m extra)
       unfolding innerOf
       inner-small = omega (arith, sum3-small (aroundOf w m) (w .hangul) extra (term + term + term) term term around-small (small .hangul) little (omega arith))
 
@@ -106,14 +103,14 @@ module _ (w : Scale) (small : Small w) where
     pub outer-read : kept (kept (aroundOf w m) +ℤ kept (w .outer)) ≡ aroundOf w m +ℤ w .outer
     outer-read = sum-read (aroundOf w m) (w .outer) (term + term + term) term around-small (small .outer) (omega arith)
 
-    pub outer-small : natAbs (outerOf w m .gain) ≤ perByte
+    pub outer-small : FewTerms (outerOf w m)
     unfolding outerOf
     outer-small =
-        gain-pick (holdsOf m) (scored Hangul (m .«current_word_len» + 1) (Score (w .outer)) (aroundOf w m)) (scored Hangul (m .«current_word_len» + 1) Nothing (aroundOf w m +ℤ w .outer)) perByte (omega (arith, around-small)) (omega (arith, sum-small (aroundOf w m) (w .outer) (term + term + term) term around-small (small .outer) (omega arith)))
+        picked FewTerms (holdsOf m) (omega (arith, around-small)) (omega (arith, sum-small (aroundOf w m) (w .outer) (term + term + term) term around-small (small .outer) (omega arith)))
 
-    pub hangul-small : (extras : List ℤ) (u x : ℕ) → natAbs (extraOf extras u) ≤ term → natAbs (hangulOf w m extras u x .gain) ≤ perByte
+    pub hangul-small : (extras : List ℤ) (u x : ℕ) → natAbs (extraOf extras u) ≤ term → FewTerms (hangulOf w m extras u x)
     unfolding hangulOf
-    hangul-small extras u x h = gain-pick (m .«prev_was_euc_range» && isEuc x) (innerOf w m (extraOf extras u)) (outerOf w m) perByte (inner-small (extraOf extras u) h) outer-small
+    hangul-small extras u x h = picked FewTerms (m .«prev_was_euc_range» && isEuc x) (inner-small (extraOf extras u) h) outer-small
 
     module _ (own : ℤ) (little : natAbs own ≤ term) where
       pub hanja-part : SFits w64 (kept a +ℤ kept own)
@@ -128,15 +125,15 @@ module _ (w : Scale) (small : Small w) where
       pub hanja-read : kept (kept (kept (kept a +ℤ kept own) +ℤ kept d) +ℤ kept c) ≡ a +ℤ own +ℤ d +ℤ c
       hanja-read = sum4-read a own d term term term held little (hanja-after-small (m .prev)) (omega arith) c term (long-small (m .«current_word_len» + 1)) (omega arith)
 
-      pub hanja-small : natAbs (hanjaOf w m own .gain) ≤ perByte
+      pub hanja-small : FewTerms (hanjaOf w m own)
       unfolding hanjaOf
       hanja-small = omega (arith, sum4-small a own d term term term held little (hanja-after-small (m .prev)) (omega arith) c term (long-small (m .«current_word_len» + 1)) (omega arith))
 
-      pub other-small : natAbs (otherOf m own .gain) ≤ perByte
+      pub other-small : FewTerms (otherOf m own)
       unfolding otherOf
       other-small = omega (arith, sum-small a own term term held little (omega arith))
 
-    pub letter-small : natAbs (letterOf w m .gain) ≤ perByte
+    pub letter-small : FewTerms (letterOf w m)
     unfolding letterOf
     letter-small = omega (arith, letter-after-small (m .prev))
 
@@ -176,7 +173,7 @@ module _ (w : Scale) (m : EucKr) (lead x length : ℕ) where
   unfolding strayOf
   stray-alone e p q = rw (e, eq-eqb length 1 p, q)
 
-  pub stray-none : extends (m .«prev_byte») x ≡ false → (length ≡ 1 → ⊥) ⊎ (isLone x ≡ false) → none dropout ≡ strayOf w m lead x length
+  pub stray-none : extends (m .«prev_byte») x ≡ false → (length ≡ 1 → ⊥) ⊎ (isLone x ≡ false) → dropped ≡ strayOf w m lead x length
   unfolding strayOf
   stray-none e (inl p) = rw (e, ne-eqb length 1 p)
   stray-none e (inr p) = rw (e, p, and-no (eqb length 1))

@@ -2,16 +2,16 @@
 ghost use mathlib.Core.Path.{_≡_};
 ghost use mathlib.Core.Bool.{true};
 ghost use Prim.Native.Nat.{_*_, _≤_, _<_};
-ghost use lib.IntN.{pos, natAbs};
-ghost use lib.ListN.{length, getD};
-ghost use Rattle.laws.specs.Run.{live, run};
-ghost use Rattle.pairs.specs.Pairs.{isLeadOrNone, SmallHeld};
+ghost use lib.IntN.{natAbs};
+ghost use lib.ListN.{length};
+ghost use Rattle.laws.specs.Run.{alive, run};
+ghost use Rattle.pairs.specs.Pairs.{SmallHeld};
 ghost use Rattle.pairs.specs.declared.Held.the-variants.{Nothing};
 ghost use Rattle.laws.specs.Limit.{limit, room};
 ghost use Rattle.weights.specs.Weights.{term, perByte};
-ghost use Rattle.lengths.specs.Lengths.{weightCount, eucKrCount, extraCount};
+ghost use Rattle.lengths.specs.Lengths.{eucKrCount, extraCount};
 ghost use Rattle.euckr.specs.Scoring.{scaleOf, extraOf, isEuc, isHangul, isHanja, hangulAfter, hanjaAfter, letterAfter, longOf, holdsOf, scored, letterOf, aroundOf, innerOf, outerOf, hangulOf, hanjaOf, otherOf, unitOf, isUserPair, isMacLead, isMacSymbol, isExtension, isLone, extensionOf, after as afterOf, pendingOf, strayOf, errorOf, lent, freshOf, stepOf};
-ghost use Rattle.euckr.specs.EucKr.{Sound, soundB, Small, outOf, ranAs, Slight, Bounded, Weighed, lentB, readyB, ranOf, closedOf};
+ghost use Rattle.euckr.specs.EucKr.{Sound, soundB, SmallScale, outOf, ranAs, Slight, Small, Weighed, lentB, readyB, ranOf, closedOf};
 ghost use Rattle.euckr.specs.declared.LatinKorean.the-variants.{Other};
 use pairs::Event;
 use pairs::Held;
@@ -116,7 +116,7 @@ fn extra(extras: &[i16], u: u32) -> i64
 impl Scale {
     fn read(weights: &[i32]) -> Scale
         ensures { λ r. ⌜ r ≡ scaleOf (now (weights .entry)) ⌝ }
-        ensures { λ r. ⌜ Small r ⌝ }
+        ensures { λ r. ⌜ SmallScale r ⌝ }
     {
         Scale {
             adjacency: weights::weight(weights, weights::CJK_LATIN_ADJACENCY),
@@ -222,7 +222,7 @@ impl EucKr {
 
     // What a Hangul adds besides its own score: what is held, its neighbour, its word.
     fn around_hangul(self, w: Scale) -> i64
-        requires { ⌜ Small w ⌝ }
+        requires { ⌜ SmallScale w ⌝ }
         requires { ⌜ SmallHeld (self .held) ⌝ }
         requires { ⌜ self .«current_word_len» ≤ 2 * room ⌝ }
         ensures { λ r. ⌜ r ≡ aroundOf w self ⌝ }
@@ -234,7 +234,7 @@ impl EucKr {
 
     // A Hangul of two bytes in the EUC range, with its extra.
     fn inner_hangul(self, extra: i64, w: Scale) -> Scored
-        requires { ⌜ Small w ⌝ }
+        requires { ⌜ SmallScale w ⌝ }
         requires { ⌜ SmallHeld (self .held) ⌝ }
         requires { ⌜ self .«current_word_len» ≤ 2 * room ⌝ }
         requires { ⌜ natAbs extra ≤ term ⌝ }
@@ -250,7 +250,7 @@ impl EucKr {
 
     // Any other Hangul: its score may be held.
     fn outer_hangul(self, w: Scale) -> Scored
-        requires { ⌜ Small w ⌝ }
+        requires { ⌜ SmallScale w ⌝ }
         requires { ⌜ SmallHeld (self .held) ⌝ }
         requires { ⌜ self .«current_word_len» ≤ 2 * room ⌝ }
         ensures { λ r. ⌜ r ≡ outerOf w self ⌝ }
@@ -273,7 +273,7 @@ impl EucKr {
     }
 
     fn hangul(self, u: u32, b: u8, extras: &[i16], w: Scale) -> Scored
-        requires { ⌜ Small w ⌝ }
+        requires { ⌜ SmallScale w ⌝ }
         requires { ⌜ SmallHeld (self .held) ⌝ }
         requires { ⌜ self .«current_word_len» ≤ 2 * room ⌝ }
         requires { ⌜ length (now extras) ≡ extraCount ⌝ }
@@ -291,7 +291,7 @@ impl EucKr {
 
     // A Hanja, or a pair that counts as one.
     fn hanja(self, own: i64, w: Scale) -> Scored
-        requires { ⌜ Small w ⌝ }
+        requires { ⌜ SmallScale w ⌝ }
         requires { ⌜ SmallHeld (self .held) ⌝ }
         requires { ⌜ self .«current_word_len» ≤ 2 * room ⌝ }
         requires { ⌜ natAbs own ≤ term ⌝ }
@@ -324,7 +324,7 @@ impl EucKr {
     }
 
     fn unit(self, u: u32, b: u8, extras: &[i16], w: Scale) -> Scored
-        requires { ⌜ Small w ⌝ }
+        requires { ⌜ SmallScale w ⌝ }
         requires { ⌜ SmallHeld (self .held) ⌝ }
         requires { ⌜ self .«current_word_len» ≤ 2 * room ⌝ }
         requires { ⌜ length (now extras) ≡ extraCount ⌝ }
@@ -416,7 +416,7 @@ fn is_lone(b: u8) -> bool
 
 // An extension byte with the byte after it: ASCII, or an extension too.
 fn extension(b: u8, w: Scale) -> Scored
-    requires { ⌜ Small w ⌝ }
+    requires { ⌜ SmallScale w ⌝ }
     ensures { λ r. ⌜ r ≡ extensionOf w b ⌝ }
 {
     if is_lone(b) {
@@ -455,7 +455,7 @@ fn after(lead: u8, b: u8, s: Scored) -> Stepped
 impl EucKr {
     // An error that is neither a pair nor a symbol: an extension, or the machine drops out.
     fn stray(self, lead: u8, b: u8, size: u8, w: Scale) -> Stepped
-        requires { ⌜ Small w ⌝ }
+        requires { ⌜ SmallScale w ⌝ }
         ensures { λ r. ⌜ outOf r ≡ strayOf w self lead b size ⌝ }
     {
         if is_extension(self.prev_byte) {
@@ -475,7 +475,7 @@ impl EucKr {
     }
 
     fn error(self, lead: u8, b: u8, size: u8, w: Scale) -> Stepped
-        requires { ⌜ Small w ⌝ }
+        requires { ⌜ SmallScale w ⌝ }
         requires { ⌜ SmallHeld (self .held) ⌝ }
         requires { ⌜ self .«current_word_len» ≤ 2 * room ⌝ }
         ensures { λ r. ⌜ outOf r ≡ errorOf w self lead b size ⌝ }
@@ -509,7 +509,7 @@ impl EucKr {
     }
 
     fn step(self, b: u8, index: &[u32], extras: &[i16], w: Scale) -> Stepped
-        requires { ⌜ Small w ⌝ }
+        requires { ⌜ SmallScale w ⌝ }
         requires { ⌜ Sound (2 * room) self ⌝ }
         requires { ⌜ length (now index) ≡ eucKrCount ⌝ }
         requires { ⌜ length (now extras) ≡ extraCount ⌝ }
@@ -526,14 +526,14 @@ impl EucKr {
         }
     }
 
-    fn go(self, part: &[u8], index: &[u32], extras: &[i16], w: Scale) -> Ran
-        requires { ⌜ Small w ⌝ }
+    fn feed(self, part: &[u8], index: &[u32], extras: &[i16], w: Scale) -> Ran
+        requires { ⌜ SmallScale w ⌝ }
         requires { ⌜ Sound room self ⌝ }
         requires { ⌜ length (now part) ≤ limit ⌝ }
         requires { ⌜ length (now index) ≡ eucKrCount ⌝ }
         requires { ⌜ length (now extras) ≡ extraCount ⌝ }
-        ensures { λ r. ⌜ r ≡ ranAs (run (stepOf (lent (now (index .entry)) (now (extras .entry)) w)) (live self (pos 0)) (now (part .entry))) ⌝ }
-        ensures { λ r. ⌜ Bounded (perByte * length (now (part .entry))) r ⌝ }
+        ensures { λ r. ⌜ r ≡ ranAs (run (stepOf (lent (now (index .entry)) (now (extras .entry)) w)) (alive self) (now (part .entry))) ⌝ }
+        ensures { λ r. ⌜ Small (perByte * length (now (part .entry))) r ⌝ }
     {
         let mut m = self;
         let mut s: i64 = 0;
@@ -557,22 +557,17 @@ impl EucKr {
     pub fn is_sound_for(self, bytes: u64) -> bool
         ensures { λ r. ⌜ r ≡ soundB bytes self ⌝ }
     {
-        if pairs::is_lead_or_none(self.lead) {
-            if self.current_word_len <= bytes {
-                let held = self.held;
-                return held.is_small();
-            }
-        }
-        false
+        let held = self.held;
+        pairs::is_lead_or_none(self.lead) && (self.current_word_len <= bytes && held.is_small())
     }
 
     pub fn run(self, part: &[u8], index: &[u32], extras: &[i16], weights: &[i32]) -> Ran
         ensures { λ r. ⌜ r ≡ ranOf (now (index .entry)) (now (extras .entry)) (now (weights .entry)) self (now (part .entry)) ⌝ }
-        ensures { λ r. ⌜ Bounded (perByte * length (now (part .entry))) r ⌝ }
+        ensures { λ r. ⌜ Small (perByte * length (now (part .entry))) r ⌝ }
         ensures { λ r. ⌜ Weighed (now (weights .entry)) r ⌝ }
     {
         if is_ready(self, part, index, extras, weights) {
-            return self.go(part, index, extras, Scale::read(weights));
+            return self.feed(part, index, extras, Scale::read(weights));
         }
         Ran::Unfit
     }
@@ -595,22 +590,14 @@ impl EucKr {
 fn is_lent(index: &[u32], extras: &[i16], weights: &[i32]) -> bool
     ensures { λ r. ⌜ r ≡ lentB (now (index .entry)) (now (extras .entry)) (now (weights .entry)) ⌝ }
 {
-    if index.len() == lengths::EUC_KR {
-        if extras.len() == lengths::EXTRAS {
-            return weights.len() == lengths::WEIGHTS;
-        }
-    }
-    false
+    index.len() == lengths::EUC_KR
+        && (extras.len() == lengths::EXTRAS && weights.len() == lengths::WEIGHTS)
 }
 
 // Whether all is in order for a run.
 fn is_ready(m: EucKr, part: &[u8], index: &[u32], extras: &[i16], weights: &[i32]) -> bool
     ensures { λ r. ⌜ r ≡ readyB (now (index .entry)) (now (extras .entry)) (now (weights .entry)) m (now (part .entry)) ⌝ }
 {
-    if m.is_sound_for(lengths::ROOM) {
-        if part.len() <= lengths::MOST {
-            return is_lent(index, extras, weights);
-        }
-    }
-    false
+    m.is_sound_for(lengths::ROOM)
+        && (part.len() <= lengths::MOST && is_lent(index, extras, weights))
 }

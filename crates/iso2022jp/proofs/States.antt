@@ -38,7 +38,7 @@ text EscapeStart index m b o = absurd (miss (0 ∷ 1 ∷ []) 5 tt o)
 text Escape index m b o = absurd (miss (0 ∷ 1 ∷ []) 6 tt o)
 
 pub pending : (state : DecoderState) (m : Iso2022Jp) → Among (4 ∷ 5 ∷ 6 ∷ []) state → Dropped ≡ ranAs (closeIn state m)
-unfolding ranAs closeIn
+unfolding closeIn
 pending Ascii m o = absurd (miss (4 ∷ 5 ∷ 6 ∷ []) 0 tt o)
 pending Roman m o = absurd (miss (4 ∷ 5 ∷ 6 ∷ []) 1 tt o)
 pending Katakana m o = absurd (miss (4 ∷ 5 ∷ 6 ∷ []) 2 tt o)
@@ -48,7 +48,7 @@ pending EscapeStart m o = refl
 pending Escape m o = refl
 
 pub at-rest : (state : DecoderState) (m : Iso2022Jp) → Among (0 ∷ 1 ∷ 2 ∷ 3 ∷ []) state → Live m ≡ ranAs (closeIn state m)
-unfolding ranAs closeIn
+unfolding closeIn
 at-rest Ascii m o = refl
 at-rest Roman m o = refl
 at-rest Katakana m o = refl

@@ -11,14 +11,14 @@ use borrow.Author.Tests.{eqb-true}
 use Rattle.laws.specs.Tests.{either, through}
 use Rattle.laws.specs.Handler.{end-of-queue, byte, after}
 use Rattle.laws.specs.Validator.{Verdict, at-start, on, outcomeBy, decoded, decodes}
-use Rattle.laws.specs.Run.{run, ended}
+use Rattle.laws.specs.Run.{run, ended, alive, dropped}
 use Rattle.octets.specs.Octets.{between}
 use Rattle.octets.specs.BetweenLaws.{below, between-low, between-high}
 use Rattle.iso2022jp.specs.declared.DecoderState.the-variants.{LeadByte}
 use Rattle.iso2022jp.specs.declared.Designated.{Designated}
 use Rattle.iso2022jp.specs.declared.Designated.the-variants.{To, Nothing}
 use Rattle.iso2022jp.specs.Standard.{DecoderState, ascii, roman, katakana, lead-byte, trail-byte, escape-start, escape, OutputState, out-ascii, out-roman, out-katakana, out-lead-byte, as-state, Decoder, variables, initial, is-text, pointer, Set, null, state, set-by, after-set, on-byte, on-end, handler, Reached}
-use Rattle.iso2022jp.specs.Iso2022Jp.{holds, fresh, Sound, leadsEscape, indexedBy, alive, dropped, isText, asciiOf, rangedOf, pairAt, trailOf, escapeStartOf, designated, stateOf, escapedTo, stepIn, stepOf, closeIn, closeOf}
+use Rattle.iso2022jp.specs.Iso2022Jp.{holds, fresh, Sound, leadsEscape, indexedBy, isText, asciiOf, rangedOf, pairAt, trailOf, escapeStartOf, designated, stateOf, escapedTo, stepIn, stepOf, closeIn, closeOf}
 use Rattle.iso2022jp.specs.Iso2022JpLaws.{escape-lead}
 use Rattle.iso2022jp.specs.Agreement.{outputState, recordOf, outcomeOf}
 

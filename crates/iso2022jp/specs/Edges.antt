@@ -4,9 +4,9 @@ use mathlib.Core.List.{List, [], _∷_}
 use Prim.Native.Nat.{ℕ}
 use lib.IntN.{ℤ}
 use Rattle.laws.specs.Lists.{any}
-use Rattle.laws.specs.Run.{live, plus, feed, run}
+use Rattle.laws.specs.Run.{live, plus, feed, run, dropped}
 use Rattle.laws.specs.Still.{drops}
-use Rattle.iso2022jp.specs.Iso2022Jp.{fresh, dropped, isText, asciiOf, escapeStartOf, designated, stateOf, escapedTo, stepIn, stepOf}
+use Rattle.iso2022jp.specs.Iso2022Jp.{fresh, isText, asciiOf, escapeStartOf, designated, stateOf, escapedTo, stepIn, stepOf}
 
 abbrev pub IsNone : List ℕ → Type 0
 IsNone xs = (index : List ℕ) (s : ℤ) → run (stepOf index) (live fresh s) xs ≡ dropped

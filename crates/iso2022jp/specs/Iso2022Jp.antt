@@ -5,12 +5,13 @@ use mathlib.Core.List.{List, [], _∷_}
 use mathlib.Core.Logic.{_⊎_}
 use Prim.Native.Nat.{ℕ, _+_, _-_, _*_, _≤_}
 use lib.Dec.{eqb, leb}
-use lib.IntN.{pos}
+use lib.IntN.{ℤ}
 use lib.ListN.{length, getD}
 use Rattle.laws.specs.Lists.{isIn}
 use Rattle.lengths.specs.Lengths.{jisCount}
 use Rattle.laws.specs.Limit.{limit}
-use Rattle.laws.specs.Run.{dropout, Outcome, none, live, run}
+use Rattle.laws.specs.Answer.{answered, answeredIf}
+use Rattle.laws.specs.Run.{Outcome, live, alive, dropped, run}
 use Rattle.octets.specs.Octets.{between}
 use Rattle.entries.specs.Entries.{isMapped}
 use Rattle.iso2022jp.specs.declared.DecoderState.{DecoderState}
@@ -25,7 +26,6 @@ use Rattle.iso2022jp.specs.declared.Stepped.the-variants.{Alive, Invalid
 use Rattle.iso2022jp.specs.declared.Ran.{Ran}
 use Rattle.iso2022jp.specs.declared.Ran.the-variants.{Live, Dropped, Unfit}
 
--- nothing is carried by a machine that dropped out
 -- ---- records
 abbrev pub holds : DecoderState → OutputState → ℕ → Bool → Iso2022Jp
 holds state out lead output = record { state = state; out = out; lead = lead; output = output }
@@ -68,12 +68,6 @@ abbrev pub indexedBy : List ℕ → ℕ → Bool
 indexedBy index pointer = isMapped (getD index pointer 0)
 
 -- ---- one byte
-abbrev pub alive : Iso2022Jp → Outcome Iso2022Jp
-alive m = live m (pos 0)
-
-abbrev pub dropped : Outcome Iso2022Jp
-dropped = none dropout
-
 abbrev pub escapeByte : ℕ
 escapeByte = 0x1B
 
@@ -174,9 +168,12 @@ abbrev pub outOf : Stepped → Outcome Iso2022Jp
 outOf (Alive m g) = live m g
 outOf Invalid = dropped
 
-unfoldable pub ranAs : Outcome Iso2022Jp → Ran
-ranAs (none d) = Dropped
-ranAs (live m s) = Live m
+-- the change of the score, which is 0, is not told
+abbrev living : Iso2022Jp → ℤ → Ran
+living m s = Live m
+
+abbrev pub ranAs : Outcome Iso2022Jp → Ran
+ranAs o = answered living Dropped o
 
 -- a record that the kind can hold, an index of the right length, and a stretch that is not too long
 pub record Ready (index : List ℕ) (m : Iso2022Jp) (xs : List ℕ) : Type 0 where
@@ -188,7 +185,7 @@ unfoldable pub readyB : List ℕ → Iso2022Jp → List ℕ → Bool
 readyB index m xs = soundB m && (eqb (length index) jisCount && leb (length xs) limit)
 
 unfoldable pub ranOf : List ℕ → Iso2022Jp → List ℕ → Ran
-ranOf index m xs = cond (readyB index m xs) (ranAs (run (stepOf index) (alive m) xs)) Unfit
+ranOf index m xs = answeredIf living Dropped Unfit (readyB index m xs) (run (stepOf index) (alive m) xs)
 
 unfoldable pub closedOf : Iso2022Jp → Ran
-closedOf m = cond (soundB m) (ranAs (closeOf m)) Unfit
+closedOf m = answeredIf living Dropped Unfit (soundB m) (closeOf m)

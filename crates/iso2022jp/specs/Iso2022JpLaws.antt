@@ -1,18 +1,18 @@
 -- What holds of the ISO-2022-JP machine's definitions, and each way through the code. Assumes nothing.
 use mathlib.Core.Path.{_≡_, refl, sym, ap, subst, _∙_}
-use mathlib.Core.Bool.{Bool, true, false, not, _||_, and-false}
-use mathlib.Core.List.{List, [], _∷_, _++_}
+use mathlib.Core.Bool.{Bool, true, false, not, _||_}
+use mathlib.Core.List.{List, [], _∷_}
 use mathlib.Core.Logic.{_⊎_, inl, inr}
-use Prim.Native.Nat.{ℕ, _<_, _≤_}
+use Prim.Native.Nat.{ℕ, _≤_}
 use native.Mathlib.Omega.{arith}
 use lib.Dec.{eqb, ltb}
 use lib.IntN.{ℤ, pos}
 use lib.ListN.{length}
-use borrow.Author.Tests.{eq-eqb, ne-eqb, eqb-true, le-leb, lt-leb, leb-true, ltb-true, ltb-false, not-true}
+use borrow.Author.Tests.{eq-eqb, ne-eqb, eqb-true, le-leb, leb-true, ltb-true, ltb-false, not-true}
 use Rattle.laws.specs.Lists.{any, isIn}
 use Rattle.lengths.specs.Lengths.{jisCount}
-use Rattle.laws.specs.Limit.{limit}
-use Rattle.laws.specs.Run.{Outcome, live, run, run-append}
+use Rattle.laws.specs.Answer.{if-fit}
+use Rattle.laws.specs.Run.{Outcome, live, run, alive}
 use Rattle.laws.specs.Still.{Ends, run-ends}
 use Rattle.laws.specs.Tests.{both, neither, either}
 use Rattle.octets.specs.Octets.{between}
@@ -24,9 +24,7 @@ use Rattle.iso2022jp.specs.declared.OutputState.the-variants.{Ascii as O
 use Rattle.iso2022jp.specs.declared.Designated.{Designated}
 use Rattle.iso2022jp.specs.declared.Designated.the-variants.{To, Nothing}
 use Rattle.iso2022jp.specs.declared.Iso2022Jp.{Iso2022Jp}
-use Rattle.iso2022jp.specs.declared.Ran.{Ran}
-use Rattle.iso2022jp.specs.declared.Ran.the-variants.{Unfit}
-use Rattle.iso2022jp.specs.Iso2022Jp.{Passes, holds, fresh, LeadIn, Sound, leadsEscape, leadInB, soundB, indexedBy, alive, escapeByte, putOut, isText, asciiOf, rangedOf, pairAt, trailOf, escapeStartOf, designated, stateOf, escapedTo, stepIn, stepOf, closeOf, ranAs, Ready, readyB, ranOf, closedOf}
+use Rattle.iso2022jp.specs.Iso2022Jp.{Passes, holds, fresh, LeadIn, Sound, leadsEscape, leadInB, soundB, indexedBy, escapeByte, putOut, isText, asciiOf, rangedOf, pairAt, trailOf, escapeStartOf, designated, stateOf, escapedTo, stepIn, stepOf, closeOf, ranAs, Ready, readyB, ranOf, closedOf}
 
 -- ---- a byte in ASCII and Roman
 module _ (b : ℕ) where
@@ -71,16 +69,16 @@ lead-byte-designated lead b l (inl e) = rw (l, e)
 lead-byte-designated lead b l (inr e) = rw (l, e)
 
 -- ---- what the kind can hold: the test decides it, both ways
-lead-true : (state : DecoderState) (lead : ℕ) → LeadIn state lead → leadInB state lead ≡ true
+true-lead : (state : DecoderState) (lead : ℕ) → LeadIn state lead → leadInB state lead ≡ true
 unfolding leadInB
-lead-true Ascii lead h = eq-eqb _ _ h
-lead-true Roman lead h = eq-eqb _ _ h
-lead-true Katakana lead h = eq-eqb _ _ h
-lead-true LeadByte lead h = eq-eqb _ _ h
-lead-true TrailByte lead h = inside 0x21 0x7E lead (h .0) (h .1)
-lead-true EscapeStart lead h = eq-eqb _ _ h
-lead-true Escape lead (inl h) = rw (eq-eqb _ _ h)
-lead-true Escape lead (inr h) = rw h
+true-lead Ascii lead h = eq-eqb _ _ h
+true-lead Roman lead h = eq-eqb _ _ h
+true-lead Katakana lead h = eq-eqb _ _ h
+true-lead LeadByte lead h = eq-eqb _ _ h
+true-lead TrailByte lead h = inside 0x21 0x7E lead (h .0) (h .1)
+true-lead EscapeStart lead h = eq-eqb _ _ h
+true-lead Escape lead (inl h) = rw (eq-eqb _ _ h)
+true-lead Escape lead (inr h) = rw h
 
 pub escape-lead : (b : ℕ) → leadsEscape b ≡ true → (b ≡ 0x24) ⊎ (b ≡ 0x28)
 escape-lead b h = at (eqb b 0x24) refl h
@@ -89,21 +87,21 @@ escape-lead b h = at (eqb b 0x24) refl h
     at true e f = inl (eqb-true _ _ e)
     at false e f = inr (eqb-true _ _ f)
 
-true-lead : (state : DecoderState) (lead : ℕ) → leadInB state lead ≡ true → LeadIn state lead
+lead-true : (state : DecoderState) (lead : ℕ) → leadInB state lead ≡ true → LeadIn state lead
 unfolding leadInB
-true-lead Ascii lead h = eqb-true _ _ h
-true-lead Roman lead h = eqb-true _ _ h
-true-lead Katakana lead h = eqb-true _ _ h
-true-lead LeadByte lead h = eqb-true _ _ h
-true-lead TrailByte lead h = (between-low _ _ _ h, between-high _ _ _ h)
-true-lead EscapeStart lead h = eqb-true _ _ h
-true-lead Escape lead h = escape-lead lead h
+lead-true Ascii lead h = eqb-true _ _ h
+lead-true Roman lead h = eqb-true _ _ h
+lead-true Katakana lead h = eqb-true _ _ h
+lead-true LeadByte lead h = eqb-true _ _ h
+lead-true TrailByte lead h = (between-low _ _ _ h, between-high _ _ _ h)
+lead-true EscapeStart lead h = eqb-true _ _ h
+lead-true Escape lead h = escape-lead lead h
 
-pub sound-true : (m : Iso2022Jp) → Sound m → soundB m ≡ true
-sound-true m h = lead-true (m .state) (m .lead) h
-
-pub true-sound : (m : Iso2022Jp) → soundB m ≡ true → Sound m
+pub true-sound : (m : Iso2022Jp) → Sound m → soundB m ≡ true
 true-sound m h = true-lead (m .state) (m .lead) h
+
+pub sound-true : (m : Iso2022Jp) → soundB m ≡ true → Sound m
+sound-true m h = lead-true (m .state) (m .lead) h
 
 pub fresh-sound : Sound fresh
 fresh-sound = refl
@@ -162,54 +160,24 @@ module _ (index : List ℕ) where
   pub run-keeps : (m : Iso2022Jp) (s : ℤ) (xs : List ℕ) → Sound m → Ends Sound s (run (stepOf index) (live m s) xs)
   run-keeps m s xs h = run-ends (stepOf index) Sound (step-keeps index) s (live m s) xs (h, refl)
 
-  -- ---- joining, by the law of every machine
-  pub run-joins : (o : Outcome Iso2022Jp) (xs ys : List ℕ) → run (stepOf index) o (xs ++ ys) ≡ run (stepOf index) (run (stepOf index) o xs) ys
-  run-joins o xs ys = run-append (stepOf index) o xs ys
-
 -- ---- what a call gives
 module _ (index : List ℕ) (m : Iso2022Jp) (xs : List ℕ) where
-  pub ready-true : Ready index m xs → readyB index m xs ≡ true
+  pub true-ready : Ready index m xs → readyB index m xs ≡ true
   unfolding readyB
-  ready-true r = rw (sound-true m (r .sound), eq-eqb _ _ (r .sized), le-leb _ _ (r .short))
+  true-ready r = rw (true-sound m (r .sound), eq-eqb _ _ (r .sized), le-leb _ _ (r .short))
 
-  pub true-ready : readyB index m xs ≡ true → Ready index m xs
+  pub ready-true : readyB index m xs ≡ true → Ready index m xs
   unfolding readyB
-  true-ready e =
+  ready-true e =
       let p = both (soundB m) _ e in
       let q = both (eqb (length index) jisCount) _ (p .1) in
-      record { sound = true-sound m (p .0); sized = eqb-true _ _ (q .0); short = leb-true _ _ (q .1) }
+      record { sound = sound-true m (p .0); sized = eqb-true _ _ (q .0); short = leb-true _ _ (q .1) }
 
   -- a caller that tested
   pub ran-ready : Ready index m xs → ranOf index m xs ≡ ranAs (run (stepOf index) (alive m) xs)
   unfolding ranOf
-  ran-ready r = rw (ready-true r)
-
-  pub ran-unfit : readyB index m xs ≡ false → Unfit ≡ ranOf index m xs
-  unfolding ranOf
-  ran-unfit e = rw e
-
-  -- each way through the code
-  pub ran-unsound : soundB m ≡ false → Unfit ≡ ranOf index m xs
-  unfolding readyB
-  ran-unsound e = ran-unfit (rw e)
-
-  pub ran-unsized : (length index ≡ jisCount → ⊥) → Unfit ≡ ranOf index m xs
-  unfolding readyB
-  ran-unsized e = ran-unfit (rw (ne-eqb _ _ e, and-false))
-
-  pub ran-long : limit < length xs → Unfit ≡ ranOf index m xs
-  unfolding readyB
-  ran-long h = ran-unfit (rw (lt-leb _ _ h, and-false, and-false))
+  ran-ready r = if-fit _ _ _ _ _ (true-ready r)
 
 pub closed-ready : (m : Iso2022Jp) → Sound m → closedOf m ≡ ranAs (closeOf m)
 unfolding closedOf
-closed-ready m h = rw (sound-true m h)
-
-module _ (m : Iso2022Jp) where
-  pub closed-unsound : soundB m ≡ false → Unfit ≡ closedOf m
-  unfolding closedOf
-  closed-unsound e = rw e
-
-  pub closed-is : (r : Ran) → soundB m ≡ true → r ≡ ranAs (closeOf m) → r ≡ closedOf m
-  unfolding closedOf
-  closed-is r e q = rw (e, q)
+closed-ready m h = if-fit _ _ _ _ _ (true-sound m h)

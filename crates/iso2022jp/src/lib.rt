@@ -3,10 +3,10 @@ ghost use mathlib.Core.Path.{_≡_};
 ghost use mathlib.Core.Bool.{true};
 ghost use Prim.Native.Nat.{_≤_};
 ghost use lib.ListN.{length};
-ghost use Rattle.laws.specs.Run.{run};
+ghost use Rattle.laws.specs.Run.{run, alive};
 ghost use Rattle.lengths.specs.Lengths.{jisCount};
 ghost use Rattle.octets.specs.Octets.{between};
-ghost use Rattle.iso2022jp.specs.Iso2022Jp.{Sound, Passes, alive, asciiOf, closedOf, designated, escapeOf, escapeStartOf, fresh, isText, katakanaOf, leadOf, leadsEscape, outOf, ranAs, ranOf, rangedOf, soundB, started, stateOf, stepOf, trailOf};
+ghost use Rattle.iso2022jp.specs.Iso2022Jp.{Sound, Passes, asciiOf, closedOf, designated, escapeOf, escapeStartOf, fresh, isText, katakanaOf, leadOf, leadsEscape, outOf, ranAs, ranOf, rangedOf, soundB, started, stateOf, stepOf, trailOf};
 
 pub enum DecoderState {
     Ascii,
@@ -313,7 +313,7 @@ impl Iso2022Jp {
         }
     }
 
-    fn go(self, part: &[u8], index: &[u32]) -> Ran
+    fn feed(self, part: &[u8], index: &[u32]) -> Ran
         requires { ⌜ Sound self × (length (now index) ≡ jisCount) ⌝ }
         ensures { λ r. ⌜ r ≡ ranAs (run (stepOf (now (index .entry))) (alive self) (now (part .entry))) ⌝ }
     {
@@ -341,7 +341,7 @@ impl Iso2022Jp {
         if self.is_sound() {
             if index.len() == lengths::JIS {
                 if part.len() <= lengths::MOST {
-                    return self.go(part, index);
+                    return self.feed(part, index);
                 }
             }
         }

@@ -3,14 +3,12 @@
 use mathlib.Core.Path.{_≡_, refl, sym, ap, _∙_}
 use mathlib.Core.Bool.{Bool}
 use mathlib.Core.List.{List, [], _∷_}
-use Prim.Native.Nat.{ℕ, suc, _+_}
-use native.Mathlib.Nat.{add-zero}
-use native.Mathlib.Omega.{arith}
+use Prim.Native.Nat.{ℕ, _+_}
 use lib.IntN.{ℤ}
 use lib.ListN.{length}
 use Rattle.laws.specs.Lists.{last}
 use Rattle.laws.specs.Memory.{Forgets}
-use Rattle.laws.specs.Run.{Out, none, live, plus, feed, run, ended}
+use Rattle.laws.specs.Run.{Out, none, live, plus, feed, run, WhenLive, run-when}
 
 module _ {D S T : Type 0} (wrap : S → T) where
   unfoldable pub carried : Out D S → Out D T
@@ -44,13 +42,7 @@ forgets-carried {inner} {outer} {fresh} wrap same f =
 
 -- ---- P of the record, where the outcome is live
 abbrev pub Holds : {D S : Type 0} → (S → Type 0) → Out D S → Type 0
-Holds P (none d) = Unit {0}
-Holds P (live m s) = P m
-
-pub holds-plus : {D S : Type 0} (P : S → Type 0) (k : ℤ) (o : Out D S) → Holds P o → Holds P (plus k o)
-unfolding plus
-holds-plus P k (none d) h = tt
-holds-plus P k (live m s) h = h
+Holds P o = WhenLive (λ m s. P m) o
 
 -- from what is known of each record that the outcome can be live with
 pub holds-all : {D S : Type 0} (P : S → Type 0) (o : Out D S) → ((m : S) (s : ℤ) → o ≡ live m s → P m) → Holds P o
@@ -63,15 +55,5 @@ holds-carried wrap P (none d) h = tt
 holds-carried wrap P (live m s) h = h
 
 -- P n is what holds of a record after n bytes
-module _ {D S : Type 0} (step : S → ℕ → Out D S) (P : ℕ → S → Type 0) (keeps : (n : ℕ) (m : S) (b : ℕ) → P n m → Holds (P (n + 1)) (step m b)) where
-  feed-holds : (n : ℕ) (o : Out D S) (b : ℕ) → Holds (P n) o → Holds (P (n + 1)) (feed step o b)
-  unfolding feed
-  feed-holds n (none d) b h = tt
-  feed-holds n (live m s) b h = holds-plus (P (n + 1)) s (step m b) (keeps n m b h)
-
-  pub run-holds : (n : ℕ) (o : Out D S) (xs : List ℕ) → Holds (P n) o → Holds (P (n + length xs)) (run step o xs)
-  unfolding run
-  run-holds n o [] h = rw add-zero h
-  run-holds n o (x ∷ xs) h =
-      let e : n + 1 + length xs ≡ n + suc (length xs) = omega arith in
-      rw e at (run-holds (n + 1) (feed step o x) xs (feed-holds n o x h))
+pub run-holds : {D S : Type 0} (step : S → ℕ → Out D S) (P : ℕ → S → Type 0) → ((n : ℕ) (m : S) (b : ℕ) → P n m → Holds (P (n + 1)) (step m b)) → (n : ℕ) (o : Out D S) (xs : List ℕ) → Holds (P n) o → Holds (P (n + length xs)) (run step o xs)
+run-holds step P keeps n o xs h = run-when step (λ i m s. P i m) (λ i m s b. keeps i m b) n o xs h

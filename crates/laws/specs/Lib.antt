@@ -1,4 +1,5 @@
 -- What the other crates stand on: laws, and no code.
+pub mod Answer
 pub mod Arms
 pub mod Carried
 pub mod Determined

@@ -2,14 +2,13 @@
 -- score changes, or that the machine drops out. Assumes nothing.
 use mathlib.Core.Path.{_≡_, refl, sym, ap, _∙_}
 use mathlib.Core.List.{List, [], _∷_, _++_}
-use Prim.Native.Nat.{ℕ, suc, _+_, _*_, _<_, _≤_}
+use Prim.Native.Nat.{ℕ, suc, _+_, _<_, _≤_}
 use native.Mathlib.Nat.{add-zero, not-suc-le-zero}
 use native.Mathlib.Numerals.{add-one}
 use native.Mathlib.Omega.{arith}
 use lib.IntN.{ℤ, pos, natAbs, _+ℤ_, +ℤ-assoc, +ℤ-idl}
 use lib.ListN.{length, getD, drop}
 use lib.Seq.{drop-cons}
-use Rattle.laws.specs.Sizes.{abs-add}
 
 -- D is what a drop-out carries
 pub data Out (D S : Type 0) : Type 0 where
@@ -25,6 +24,13 @@ dropout = tt
 
 abbrev pub Outcome : Type 0 → Type 0
 Outcome S = Out Dropout S
+
+abbrev pub dropped : {S : Type 0} → Outcome S
+dropped = none dropout
+
+-- alive, with the score as it was
+abbrev pub alive : {D S : Type 0} → S → Out D S
+alive m = live m (pos 0)
 
 -- an outcome whose score is larger by k
 unfoldable pub plus : {D S : Type 0} → ℤ → Out D S → Out D S
@@ -111,30 +117,34 @@ module _ {D S : Type 0} (step : S → ℕ → Out D S) where
     turn-none d e = sym (run-at ∙ ap (λ (o : Out D S). run step (plus s o) (drop (i + 1) xs)) e ∙ run-none d (drop (i + 1) xs))
 
 -- ---- what a run keeps
+-- what holds of the record and the score, where the outcome is live
+abbrev pub WhenLive : {D S : Type 0} → (S → ℤ → Type 0) → Out D S → Type 0
+WhenLive P (none d) = Unit {0}
+WhenLive P (live m s) = P m s
+
+pub when-more : {D S : Type 0} {P Q : S → ℤ → Type 0} → ((m : S) (s : ℤ) → P m s → Q m s) → (o : Out D S) → WhenLive P o → WhenLive Q o
+when-more f (none d) h = tt
+when-more f (live m s) h = f m s h
+
+pub when-plus : {D S : Type 0} (P : S → ℤ → Type 0) (k : ℤ) (o : Out D S) → WhenLive (λ m s. P m (k +ℤ s)) o → WhenLive P (plus k o)
+unfolding plus
+when-plus P k (none d) h = tt
+when-plus P k (live m s) h = h
+
+-- P i is what holds after i bytes
+module _ {D S : Type 0} (step : S → ℕ → Out D S) (P : ℕ → S → ℤ → Type 0) (keeps : (i : ℕ) (m : S) (s : ℤ) (b : ℕ) → P i m s → WhenLive (λ n g. P (i + 1) n (s +ℤ g)) (step m b)) where
+  feed-when : (i : ℕ) (o : Out D S) (b : ℕ) → WhenLive (P i) o → WhenLive (P (i + 1)) (feed step o b)
+  unfolding feed
+  feed-when i (none d) b h = tt
+  feed-when i (live m s) b h = when-plus (P (i + 1)) s (step m b) (keeps i m s b h)
+
+  pub run-when : (i : ℕ) (o : Out D S) (xs : List ℕ) → WhenLive (P i) o → WhenLive (P (i + length xs)) (run step o xs)
+  unfolding run
+  run-when i o [] h = rw add-zero h
+  run-when i o (x ∷ xs) h =
+      let e : i + 1 + length xs ≡ i + suc (length xs) = omega arith in
+      rw e at (run-when (i + 1) (feed step o x) xs (feed-when i o x h))
+
 -- a live outcome has a record of which P holds, and a score of size at most c
 abbrev pub Within : {D S : Type 0} → (S → Type 0) → ℕ → Out D S → Type 0
-Within P c (none d) = Unit {0}
-Within P c (live m s) = P m × (natAbs s ≤ c)
-
-plus-within : {D S : Type 0} (P : S → Type 0) (k : ℤ) (c d : ℕ) (o : Out D S) → natAbs k ≤ c → Within P d o → Within P (c + d) (plus k o)
-unfolding plus
-plus-within P k c d (none x) p q = tt
-plus-within P k c d (live m s) p q = (q .0, omega (arith, abs-add k s, q .1))
-
-pub within-more : {D S : Type 0} (P : S → Type 0) (c d : ℕ) (o : Out D S) → c ≤ d → Within P c o → Within P d o
-within-more P c d (none x) h q = tt
-within-more P c d (live m s) h q = (q .0, omega (arith, q .1))
-
--- P n is what holds of a record after n bytes, and a byte changes the score by at most g
-module _ {D S : Type 0} (step : S → ℕ → Out D S) (P : ℕ → S → Type 0) (g : ℕ) (keeps : (n : ℕ) (m : S) (b : ℕ) → P n m → Within (P (n + 1)) g (step m b)) where
-  feed-within : (n c : ℕ) (o : Out D S) (b : ℕ) → Within (P n) c o → Within (P (n + 1)) (c + g) (feed step o b)
-  unfolding feed
-  feed-within n c (none d) b q = tt
-  feed-within n c (live m s) b q = plus-within (P (n + 1)) s c g (step m b) (q .1) (keeps n m b (q .0))
-
-  pub run-within : (n c : ℕ) (o : Out D S) (xs : List ℕ) → Within (P n) c o → Within (P (n + length xs)) (c + g * length xs) (run step o xs)
-  unfolding run
-  run-within n c o [] q = rw add-zero (within-more (P n) c (c + g * 0) o (omega arith) q)
-  run-within n c o (x ∷ xs) q =
-      let e : n + 1 + length xs ≡ n + suc (length xs) = omega arith in
-      rw e at (within-more (P (n + 1 + length xs)) (c + g + g * length xs) (c + g * suc (length xs)) (run step (feed step o x) xs) (omega arith) (run-within (n + 1) (c + g) (feed step o x) xs (feed-within n c o x q)))
+Within P c o = WhenLive (λ m s. P m × (natAbs s ≤ c)) o

@@ -1,37 +1,23 @@
 -- Machines whose step never changes the score: validators. What a run of one keeps, and where it can end. Assumes nothing.
 use mathlib.Core.Path.{_≡_, refl, sym, ap, _∙_}
-use mathlib.Core.List.{List, [], _∷_, _++_}
-use Prim.Native.Nat.{ℕ, _+_, _<_}
+use mathlib.Core.List.{List, _∷_, _++_}
+use Prim.Native.Nat.{ℕ, _+_}
 use native.Mathlib.Omega.{arith}
-use lib.IntN.{ℤ, pos, _+ℤ_, +ℤ-idr}
-use lib.ListN.{length, getD, drop}
-use Rattle.laws.specs.Run.{Out, none, live, plus, feed, run, plus-zero, run-append, run-none, run-plus, turn-live, ended}
+use lib.IntN.{ℤ, pos, +ℤ-idr}
+use Rattle.laws.specs.Run.{WhenLive, when-more, run-when, Out, none, live, plus, feed, run, run-append, run-none, run-plus, ended}
 
 abbrev pub Lives : {D S : Type 0} → Out D S → Type 0
 Lives {S} o = (m : S) × ((s : ℤ) × (o ≡ live m s))
 
 -- dropped out, or live with the score s and a record of which P holds
 abbrev pub Ends : {D S : Type 0} → (S → Type 0) → ℤ → Out D S → Type 0
-Ends P s (none d) = Unit {0}
-Ends P s (live m t) = P m × (t ≡ s)
-
-plus-ends : {D S : Type 0} (P : S → Type 0) (s : ℤ) (o : Out D S) → Ends P (pos 0) o → Ends P s (plus s o)
-unfolding plus
-plus-ends P s (none d) q = tt
-plus-ends P s (live m t) q = (q .0, ap (λ (z : ℤ). s +ℤ z) (q .1) ∙ +ℤ-idr s)
+Ends P s o = WhenLive (λ m t. P m × (t ≡ s)) o
 
 module _ {D S : Type 0} (step : S → ℕ → Out D S) where
   -- ---- a step that keeps P and changes no score: so does a run
-  module _ (P : S → Type 0) (keeps : (m : S) (b : ℕ) → P m → Ends P (pos 0) (step m b)) where
-    feed-ends : (s : ℤ) (o : Out D S) (b : ℕ) → Ends P s o → Ends P s (feed step o b)
-    unfolding feed
-    feed-ends s (none d) b q = tt
-    feed-ends s (live m t) b q = rw (q .1) (plus-ends P s (step m b) (keeps m b (q .0)))
-
-    pub run-ends : (s : ℤ) (o : Out D S) (xs : List ℕ) → Ends P s o → Ends P s (run step o xs)
-    unfolding run
-    run-ends s o [] q = q
-    run-ends s o (x ∷ xs) q = run-ends s (feed step o x) xs (feed-ends s o x q)
+  pub run-ends : (P : S → Type 0) → ((m : S) (b : ℕ) → P m → Ends P (pos 0) (step m b)) → (s : ℤ) (o : Out D S) (xs : List ℕ) → Ends P s o → Ends P s (run step o xs)
+  run-ends P keeps s o xs h =
+      run-when step (λ i m t. P m × (t ≡ s)) (λ i m t b q. when-more (λ n g r. (r .0, rw (q .1, r .1, +ℤ-idr))) (step m b) (keeps m b (q .0))) 0 o xs h
 
   -- ---- from any score as from 0
   pub from-zero : (m : S) (s : ℤ) (xs : List ℕ) → run step (live m s) xs ≡ plus s (run step (live m (pos 0)) xs)
@@ -54,10 +40,6 @@ module _ {D S : Type 0} (step : S → ℕ → Out D S) where
   pub run-drops : (m : S) (d : D) (b : ℕ) (bs : List ℕ) → step m b ≡ none d → run step (live m (pos 0)) (b ∷ bs) ≡ none d
   unfolding run feed plus
   run-drops m d b bs e = rw e (run-none step d bs)
-
-  -- ---- for a loop: one turn at i
-  pub turn-still : (m n : S) (g : ℤ) (xs : List ℕ) (i : ℕ) → i < length xs → step m (getD xs i 0) ≡ live n g → g ≡ pos 0 → run step (live n (pos 0)) (drop (i + 1) xs) ≡ run step (live m (pos 0)) (drop i xs)
-  turn-still m n g xs i h e q = turn-live step m (pos 0) xs i h n (pos 0) (e ∙ ap (live n) q)
 
   -- ---- what begins a stretch that lives, lives
   begun : (o : Out D S) (ys : List ℕ) → Lives (run step o ys) → Lives o

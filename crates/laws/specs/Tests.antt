@@ -24,6 +24,9 @@ pub either : {A : Type 0} (P : A → Type 0) (t : Bool) {x y : A} → (t ≡ tru
 either P true p q = p refl
 either P false p q = q refl
 
+pub picked : {A : Type 0} (P : A → Type 0) (t : Bool) {x y : A} → P x → P y → P (cond t x y)
+picked P t p q = either P t (λ e. p) (λ e. q)
+
 -- a function of what a test picks
 pub through : {A B : Type 0} (f : A → B) (t : Bool) (x y : A) → f (cond t x y) ≡ cond t (f x) (f y)
 through f true x y = refl

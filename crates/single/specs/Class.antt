@@ -4,7 +4,7 @@ use mathlib.Core.List.{List}
 use Prim.Native.Nat.{ℕ, _%_}
 use lib.Dec.{eqb, leb}
 use lib.ListN.{getD}
-use Rattle.laws.specs.Run.{dropout, Outcome, none}
+use Rattle.laws.specs.Run.{Outcome, dropped}
 use Rattle.single.specs.Lent.{Lent}
 
 abbrev pub classOf : Lent → ℕ → ℕ
@@ -29,7 +29,7 @@ alphabetic t b = alphabeticOf (t .marks) (caselessOf t b)
 
 -- none exactly at class 255
 abbrev pub unless255 : {S : Type 0} → Lent → ℕ → Outcome S → Outcome S
-unless255 t b o = cond (eqb (classOf t b) 255) (none dropout) o
+unless255 t b o = cond (eqb (classOf t b) 255) dropped o
 
 -- what the end of the stream counts as
 abbrev pub space : ℕ

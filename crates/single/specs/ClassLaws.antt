@@ -4,22 +4,18 @@ use mathlib.Core.Bool.{Bool, true, false, cond}
 use Prim.Native.Nat.{ℕ}
 use lib.Dec.{eqb}
 use lib.IntN.{ℤ}
-use borrow.Author.Tests.{eq-eqb, ne-eqb}
-use Rattle.laws.specs.Run.{dropout, Outcome, none, live}
+use borrow.Author.Tests.{ne-eqb}
+use Rattle.laws.specs.Run.{Outcome, live, dropped}
 use Rattle.single.specs.Class.{classOf, unless255}
 use Rattle.single.specs.Lent.{Lent}
 
-module _ {S : Type 0} (t : Lent) (b : ℕ) where
-  pub at255 : (o : Outcome S) → classOf t b ≡ 255 → unless255 t b o ≡ none dropout
-  at255 o e = rw (eq-eqb _ _ e)
-
-  pub not255 : (o : Outcome S) → (classOf t b ≡ 255 → ⊥) → unless255 t b o ≡ o
-  not255 o e = rw (ne-eqb _ _ e)
+pub not255 : {S : Type 0} (t : Lent) (b : ℕ) (o : Outcome S) → (classOf t b ≡ 255 → ⊥) → unless255 t b o ≡ o
+not255 t b o e = rw (ne-eqb _ _ e)
 
 -- what is live is what the step gives
-pick-live : {S : Type 0} (x : Bool) (o : Outcome S) (m n : S) (k g : ℤ) → o ≡ none dropout → cond x o (live m k) ≡ live n g → n ≡ m
+pick-live : {S : Type 0} (x : Bool) (o : Outcome S) (m n : S) (k g : ℤ) → o ≡ dropped → cond x o (live m k) ≡ live n g → n ≡ m
 pick-live true o m n k g d e = cc
 pick-live false o m n k g d e = cc
 
 pub live-is : {S : Type 0} (t : Lent) (b : ℕ) (m n : S) (k g : ℤ) → unless255 t b (live m k) ≡ live n g → n ≡ m
-live-is t b m n k g e = pick-live (eqb (classOf t b) 255) (none dropout) m n k g refl e
+live-is t b m n k g e = pick-live (eqb (classOf t b) 255) dropped m n k g refl e

@@ -1,6 +1,5 @@
 -- What is tested once at the entry of a public call: the lent lengths, the record, the part's length. Assumes nothing.
 use mathlib.Core.Bool.{Bool, _&&_}
-use mathlib.Core.Path.{_≡_}
 use Prim.Native.Nat.{ℕ, _<_, _≤_}
 use lib.Dec.{ltb, leb}
 use Rattle.laws.specs.Limit.{limit}

@@ -2,13 +2,15 @@
 -- Assumes nothing.
 use mathlib.Core.Path.{_≡_}
 use mathlib.Core.Bool.{Bool, true, false, cond}
-use Prim.Native.Nat.{ℕ, _+_, _<_, _≤_}
+use Prim.Native.Nat.{ℕ, _+_, _≤_}
 use native.Mathlib.Nat.{mod-lt}
 use native.Mathlib.Omega.{arith}
-use lib.Dec.{ltb, leb}
-use lib.ListN.{length}
+use lib.Dec.{ltb}
+use lib.ListN.{take}
+use lib.Seq.{take-all}
 use borrow.Author.Tests.{ltb-true, leb-true, eqb-true, lt-ltb, le-leb, eq-eqb}
 use Rattle.laws.specs.Tests.{both}
+use Rattle.lengths.specs.Lengths.{markCount, pairCount, weightCount}
 use Rattle.single.specs.Class.{classOf, caselessOf}
 use Rattle.single.specs.Fit.{Common, commonB, Fit, fitB}
 use Rattle.single.specs.Lent.{Lent, Sized, sizedB}
@@ -27,6 +29,17 @@ sized-true t e =
 pub true-sized : (t : Lent) → Sized t → sizedB t ≡ true
 unfolding sizedB
 true-sized t o = rw (eq-eqb _ _ (o .classes-length), eq-eqb _ _ (o .marks-length), eq-eqb _ _ (o .pairs-length), eq-eqb _ _ (o .weights-length))
+
+-- what is of its length is whole in a part of that length
+module _ (t : Lent) (o : Sized t) where
+  pub marks-whole : take markCount (t .marks) ≡ t .marks
+  marks-whole = take-all markCount (t .marks) (omega (arith, o .marks-length))
+
+  pub pairs-whole : take pairCount (t .pairs) ≡ t .pairs
+  pairs-whole = take-all pairCount (t .pairs) (omega (arith, o .pairs-length))
+
+  pub weights-whole : take weightCount (t .weights) ≡ t .weights
+  weights-whole = take-all weightCount (t .weights) (omega (arith, o .weights-length))
 
 -- ---- the shared fields
 module _ (n prev word longest : ℕ) where

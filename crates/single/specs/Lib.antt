@@ -1,3 +1,5 @@
+pub mod Answers
+pub mod AnswersLaws
 pub mod Class
 pub mod ClassLaws
 pub mod Fit

@@ -24,29 +24,16 @@ pub struct Words {
 fn is_sized(classes: &[u8], marks: &[u8], pairs: &[i16], weights: &[i32]) -> bool
     ensures { λ r. ⌜ r ≡ sizedB (lent (now (classes .entry)) (now (marks .entry)) (now (pairs .entry)) (now (weights .entry))) ⌝ }
 {
-    if classes.len() != lengths::CLASSES {
-        return false;
-    }
-    if marks.len() != lengths::MARKS {
-        return false;
-    }
-    if pairs.len() != lengths::PAIRS {
-        return false;
-    }
-    weights.len() == lengths::WEIGHTS
+    classes.len() == lengths::CLASSES
+        && (marks.len() == lengths::MARKS
+            && (pairs.len() == lengths::PAIRS && weights.len() == lengths::WEIGHTS))
 }
 
 // Whether n bytes can have led to the fields that the four records share.
 pub fn is_common(n: u64, prev: u8, word: u64, longest: u64) -> bool
     ensures { λ r. ⌜ r ≡ commonB n prev word longest ⌝ }
 {
-    if 128 <= prev {
-        return false;
-    }
-    if n < word {
-        return false;
-    }
-    longest <= n
+    prev < 128 && (word <= n && longest <= n)
 }
 
 // The test at the entry of a public call.
@@ -60,12 +47,7 @@ pub fn is_fit(
 ) -> bool
     ensures { λ r. ⌜ r ≡ fitB (lent (now (classes .entry)) (now (marks .entry)) (now (pairs .entry)) (now (weights .entry))) sound bytes ⌝ }
 {
-    if is_sized(classes, marks, pairs, weights) {
-        if sound {
-            return bytes <= lengths::MOST;
-        }
-    }
-    false
+    is_sized(classes, marks, pairs, weights) && (sound && bytes <= lengths::MOST)
 }
 
 // Whether the marks say so of the class; a class that they don't reach is not alphabetic.

@@ -10,11 +10,11 @@ use borrow.Author.Tests.{ne-eqb, eqb-true, eqb-false}
 use Rattle.laws.specs.Tests.{either, through}
 use Rattle.laws.specs.Handler.{end-of-queue, byte, continue, code-point, error, after}
 use Rattle.laws.specs.Validator.{Verdict, at-start, on, outcomeBy, decoded, decodes}
-use Rattle.laws.specs.Run.{run, ended}
+use Rattle.laws.specs.Run.{run, ended, alive, dropped}
 use Rattle.octets.specs.Octets.{between}
 use Rattle.utf8.specs.declared.Utf8.{Utf8}
 use Rattle.utf8.specs.Standard.{Decoder, variables, initial, handler, Reached}
-use Rattle.utf8.specs.Utf8.{needs, fresh, Sound, plain, after-E0, after-ED, after-F0, after-F4, alive, dropped, leadOf, trailOf, stepOf, closeOf}
+use Rattle.utf8.specs.Utf8.{needs, fresh, Sound, plain, after-E0, after-ED, after-F0, after-F4, leadOf, trailOf, stepOf, closeOf}
 use Rattle.utf8.specs.Utf8Laws.{cut-range, most-needed, fresh-sound}
 use Rattle.utf8.specs.Agreement.{recordOf, outcomeOf}
 

@@ -3,9 +3,9 @@ use mathlib.Core.Path.{_≡_, refl}
 use mathlib.Core.List.{List, [], _∷_}
 use Prim.Native.Nat.{ℕ}
 use lib.IntN.{ℤ}
-use Rattle.laws.specs.Run.{live, plus, feed, run}
+use Rattle.laws.specs.Run.{live, plus, feed, run, dropped}
 use Rattle.laws.specs.Still.{lives, drops}
-use Rattle.utf8.specs.Utf8.{fresh, dropped, leadOf, trailOf, stepOf}
+use Rattle.utf8.specs.Utf8.{fresh, leadOf, trailOf, stepOf}
 
 -- the bytes live, and no byte is needed after them
 abbrev pub LivesWhole : List ℕ → Type 0

@@ -3,10 +3,11 @@ use mathlib.Core.Bool.{Bool, false, cond, _&&_, _||_}
 use mathlib.Core.List.{List}
 use Prim.Native.Nat.{ℕ, _-_, _≤_}
 use lib.Dec.{eqb, leb}
-use lib.IntN.{pos}
+use lib.IntN.{ℤ}
 use lib.ListN.{length}
 use Rattle.laws.specs.Limit.{limit}
-use Rattle.laws.specs.Run.{dropout, Outcome, none, live, run}
+use Rattle.laws.specs.Answer.{answered, answeredIf}
+use Rattle.laws.specs.Run.{Outcome, live, alive, dropped, run}
 use Rattle.octets.specs.Octets.{between}
 use Rattle.utf8.specs.declared.Utf8.{Utf8}
 use Rattle.utf8.specs.declared.Stepped.{Stepped}
@@ -14,7 +15,6 @@ use Rattle.utf8.specs.declared.Stepped.the-variants.{Alive, Invalid}
 use Rattle.utf8.specs.declared.Ran.{Ran}
 use Rattle.utf8.specs.declared.Ran.the-variants.{Live, Dropped, Unfit}
 
--- nothing is carried by a machine that dropped out
 -- ---- records
 -- n bytes are needed, the next of them from lo to hi
 abbrev pub needs : ℕ → ℕ → ℕ → Utf8
@@ -44,12 +44,6 @@ soundB m =
     (cond (eqb (m .need) 3) (nextCut m 0x90 0x8F) false))
 
 -- ---- one byte
-abbrev pub alive : Utf8 → Outcome Utf8
-alive m = live m (pos 0)
-
-abbrev pub dropped : Outcome Utf8
-dropped = none dropout
-
 -- a byte where a sequence begins
 unfoldable pub leadOf : ℕ → Outcome Utf8
 leadOf b =
@@ -75,9 +69,12 @@ abbrev pub outOf : Stepped → Outcome Utf8
 outOf (Alive m g) = live m g
 outOf Invalid = dropped
 
-unfoldable pub ranAs : Outcome Utf8 → Ran
-ranAs (none d) = Dropped
-ranAs (live m s) = Live m
+-- the change of the score, which is 0, is not told
+abbrev living : Utf8 → ℤ → Ran
+living m s = Live m
+
+abbrev pub ranAs : Outcome Utf8 → Ran
+ranAs o = answered living Dropped o
 
 -- a record that the kind can hold, and a stretch that is not too long
 pub record Ready (m : Utf8) (xs : List ℕ) : Type 0 where
@@ -88,7 +85,7 @@ unfoldable pub readyB : Utf8 → List ℕ → Bool
 readyB m xs = soundB m && leb (length xs) limit
 
 unfoldable pub ranOf : Utf8 → List ℕ → Ran
-ranOf m xs = cond (readyB m xs) (ranAs (run stepOf (alive m) xs)) Unfit
+ranOf m xs = answeredIf living Dropped Unfit (readyB m xs) (run stepOf (alive m) xs)
 
 unfoldable pub closedOf : Utf8 → Ran
-closedOf m = cond (soundB m) (ranAs (closeOf m)) Unfit
+closedOf m = answeredIf living Dropped Unfit (soundB m) (closeOf m)

@@ -1,22 +1,22 @@
 -- What holds of the UTF-8 machine's definitions, and each way through the code. Assumes nothing.
 use mathlib.Core.Path.{_≡_, refl, sym, subst, _∙_}
-use mathlib.Core.Bool.{Bool, true, false, cond, _||_, and-false}
-use mathlib.Core.List.{List, _++_}
+use mathlib.Core.Bool.{Bool, true, false, cond, _||_}
+use mathlib.Core.List.{List}
 use Prim.Native.Nat.{ℕ, _-_, _<_, _≤_}
 use native.Mathlib.Omega.{arith}
 use lib.Dec.{eqb, leb}
 use lib.IntN.{ℤ, pos}
 use lib.ListN.{length}
-use borrow.Author.Tests.{eq-eqb, ne-eqb, eqb-true, le-leb, lt-leb, leb-true}
+use borrow.Author.Tests.{eq-eqb, ne-eqb, eqb-true, le-leb, leb-true}
 use Rattle.laws.specs.Limit.{limit}
-use Rattle.laws.specs.Run.{Outcome, live, run, run-append}
+use Rattle.laws.specs.Answer.{if-fit}
+use Rattle.laws.specs.Run.{Outcome, live, run, alive, dropped}
 use Rattle.laws.specs.Tests.{both, either}
 use Rattle.laws.specs.Still.{Lives, Ends, none-live, run-ends}
 use Rattle.octets.specs.Octets.{between}
 use Rattle.octets.specs.BetweenLaws.{inside, below, above}
 use Rattle.utf8.specs.declared.Utf8.{Utf8}
-use Rattle.utf8.specs.declared.Ran.the-variants.{Live, Dropped, Unfit}
-use Rattle.utf8.specs.Utf8.{needs, fresh, Sound, plain, after-E0, after-ED, after-F0, after-F4, nextIn, nextCut, soundB, alive, dropped, leadOf, trailOf, stepOf, closeOf, ranAs, Ready, readyB, ranOf, closedOf}
+use Rattle.utf8.specs.Utf8.{needs, fresh, Sound, plain, after-E0, after-ED, after-F0, after-F4, nextIn, nextCut, soundB, leadOf, trailOf, stepOf, closeOf, ranAs, Ready, readyB, ranOf, closedOf}
 
 -- ---- each way through a byte that begins a sequence
 module _ (b : ℕ) where
@@ -95,17 +95,17 @@ module _ (m : Utf8) where
   sound-at false false true p q r h = cut-sound 3 0x90 0x8F (eqb-true _ _ r) after-F0 after-F4 h
   sound-at false false false p q r h = let z : _≡_ {A = ℕ} 0 1 = cc in absurd (omega arith)
 
-  pub true-sound : soundB m ≡ true → Sound m
+  pub sound-true : soundB m ≡ true → Sound m
   unfolding soundB
-  true-sound h = sound-at (nextIn m 0x80 0xBF) (eqb (m .need) 2) (eqb (m .need) 3) refl refl refl h
+  sound-true h = sound-at (nextIn m 0x80 0xBF) (eqb (m .need) 2) (eqb (m .need) 3) refl refl refl h
 
-pub sound-true : (m : Utf8) → Sound m → soundB m ≡ true
+pub true-sound : (m : Utf8) → Sound m → soundB m ≡ true
 unfolding soundB nextIn nextCut
-sound-true m (plain {n} h) = le-leb n 3 h
-sound-true m after-E0 = refl
-sound-true m after-ED = refl
-sound-true m after-F0 = refl
-sound-true m after-F4 = refl
+true-sound m (plain {n} h) = le-leb n 3 h
+true-sound m after-E0 = refl
+true-sound m after-ED = refl
+true-sound m after-F0 = refl
+true-sound m after-F4 = refl
 
 -- ---- a step keeps it, and changes no score
 -- after a lead that cuts the next byte's range at one end, or at none
@@ -154,10 +154,6 @@ step-live m n b s h e = rw e at (step-keeps m b h)
 pub run-keeps : (m : Utf8) (s : ℤ) (xs : List ℕ) → Sound m → Ends Sound s (run stepOf (live m s) xs)
 run-keeps m s xs h = run-ends stepOf Sound step-keeps s (live m s) xs (h, refl)
 
--- ---- joining, by the law of every machine
-pub run-joins : (o : Outcome Utf8) (xs ys : List ℕ) → run stepOf o (xs ++ ys) ≡ run stepOf (run stepOf o xs) ys
-run-joins o xs ys = run-append stepOf o xs ys
-
 -- ---- the close: live exactly if nothing is needed
 close-at : (m : Utf8) (t : Bool) → eqb (m .need) 0 ≡ t → Lives (cond t (alive m) dropped) → m .need ≡ 0
 close-at m true e l = eqb-true _ _ e
@@ -169,45 +165,19 @@ close-whole m l = close-at m (eqb (m .need) 0) refl l
 
 -- ---- what a call gives
 module _ (m : Utf8) (xs : List ℕ) where
-  pub ready-true : Ready m xs → readyB m xs ≡ true
+  pub true-ready : Ready m xs → readyB m xs ≡ true
   unfolding readyB
-  ready-true r = rw (sound-true m (r .sound), le-leb _ _ (r .short))
+  true-ready r = rw (true-sound m (r .sound), le-leb _ _ (r .short))
 
-  pub true-ready : readyB m xs ≡ true → Ready m xs
+  pub ready-true : readyB m xs ≡ true → Ready m xs
   unfolding readyB
-  true-ready e = let q = both (soundB m) (leb (length xs) limit) e in record { sound = true-sound m (q .0); short = leb-true _ _ (q .1) }
+  ready-true e = let q = both (soundB m) (leb (length xs) limit) e in record { sound = sound-true m (q .0); short = leb-true _ _ (q .1) }
 
   -- a caller that tested
   pub ran-ready : Ready m xs → ranOf m xs ≡ ranAs (run stepOf (alive m) xs)
   unfolding ranOf
-  ran-ready r = rw (ready-true r)
+  ran-ready r = if-fit _ _ _ _ _ (true-ready r)
 
-  pub ran-unfit : readyB m xs ≡ false → Unfit ≡ ranOf m xs
-  unfolding ranOf
-  ran-unfit e = rw e
-
-  -- each way through the code
-  pub ran-unsound : soundB m ≡ false → Unfit ≡ ranOf m xs
-  unfolding readyB
-  ran-unsound e = ran-unfit (rw e)
-
-  pub ran-long : limit < length xs → Unfit ≡ ranOf m xs
-  unfolding readyB
-  ran-long h = ran-unfit (rw (lt-leb _ _ h, and-false))
-
-module _ (m : Utf8) where
-  pub closed-ready : Sound m → closedOf m ≡ ranAs (closeOf m)
-  unfolding closedOf
-  closed-ready h = rw (sound-true m h)
-
-  pub closed-whole : soundB m ≡ true → m .need ≡ 0 → Live m ≡ closedOf m
-  unfolding closedOf closeOf ranAs
-  closed-whole e h = rw (e, eq-eqb _ _ h)
-
-  pub closed-cut : soundB m ≡ true → (m .need ≡ 0 → ⊥) → Dropped ≡ closedOf m
-  unfolding closedOf closeOf ranAs
-  closed-cut e h = rw (e, ne-eqb _ _ h)
-
-  pub closed-unsound : soundB m ≡ false → Unfit ≡ closedOf m
-  unfolding closedOf
-  closed-unsound e = rw e
+pub closed-ready : (m : Utf8) → Sound m → closedOf m ≡ ranAs (closeOf m)
+unfolding closedOf
+closed-ready m h = if-fit _ _ _ _ _ (true-sound m h)

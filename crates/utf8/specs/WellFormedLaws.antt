@@ -10,7 +10,7 @@ use lib.Dec.{T, eqb, ltb, leb, eqb→eq, leb→le}
 use lib.IntN.{ℤ, pos, negsuc, +ℤ-idr}
 use lib.ListN.{length}
 use borrow.Author.Tests.{ltb-true, ltb-false}
-use Rattle.laws.specs.Run.{Outcome, none, live, plus, run, run-append, run-nil, ended}
+use Rattle.laws.specs.Run.{Outcome, none, live, plus, run, run-append, run-nil, ended, alive, dropped}
 use Rattle.laws.specs.Still.{Lives, lives, lives-begun, from-zero, run-first, run-drops, none-live, plus-live, ended-live}
 use Rattle.laws.specs.Validator.{decoded}
 use Rattle.laws.specs.Table.{and-left, and-right, every, nothing, within}
@@ -18,7 +18,7 @@ use Rattle.octets.specs.Octets.{between}
 use Rattle.octets.specs.BetweenLaws.{between-low, between-high}
 use Rattle.utf8.specs.declared.Utf8.{Utf8}
 use Rattle.utf8.specs.WellFormed.{Range, _to_, Row, table, Fits, FitsOne, WellFormed, Text, empty, then, Cut, Streams}
-use Rattle.utf8.specs.Utf8.{needs, fresh, alive, dropped, leadOf, stepOf, closeOf}
+use Rattle.utf8.specs.Utf8.{needs, fresh, leadOf, stepOf, closeOf}
 use Rattle.utf8.specs.Standard.{initial, handler}
 use Rattle.utf8.specs.Agreement.{outcomeOf}
 use Rattle.utf8.specs.AgreementLaws.{stream-agrees}

@@ -2,8 +2,8 @@
 ghost use mathlib.Core.Path.{_≡_};
 ghost use mathlib.Core.Bool.{cond};
 ghost use lib.Dec.{eqb};
-ghost use Rattle.laws.specs.Run.{run};
-ghost use Rattle.utf8.specs.Utf8.{Sound, alive, closedOf, fresh, leadOf, needs, nextCut, nextIn, outOf, ranAs, ranOf, soundB, stepOf};
+ghost use Rattle.laws.specs.Run.{run, alive};
+ghost use Rattle.utf8.specs.Utf8.{Sound, closedOf, fresh, leadOf, needs, nextCut, nextIn, outOf, ranAs, ranOf, soundB, stepOf};
 
 // Between two bytes: how many more the sequence needs, and the range of the next one.
 pub struct Utf8 {
@@ -128,7 +128,7 @@ impl Utf8 {
         Utf8::awaits(need - 1, Utf8::LOWER, Utf8::UPPER)
     }
 
-    fn go(self, part: &[u8]) -> Ran
+    fn feed(self, part: &[u8]) -> Ran
         requires { ⌜ Sound self ⌝ }
         ensures { λ r. ⌜ r ≡ ranAs (run stepOf (alive self) (now (part .entry))) ⌝ }
     {
@@ -150,7 +150,7 @@ impl Utf8 {
     {
         if self.is_sound() {
             if part.len() <= lengths::MOST {
-                return self.go(part);
+                return self.feed(part);
             }
         }
         Ran::Unfit

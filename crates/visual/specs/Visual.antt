@@ -1,15 +1,15 @@
 -- The machine of visual order: what one byte does, a part of a chunk, and the close. Assumes nothing.
-use mathlib.Core.Bool.{Bool, true, false, cond, not, _&&_}
+use mathlib.Core.Bool.{Bool, true, false, not, _&&_}
 use mathlib.Core.List.{List}
 use Prim.Native.Nat.{ℕ, _≤_}
 use lib.Dec.{leb}
-use lib.IntN.{ℤ, pos, natAbs}
-use lib.ListN.{length}
-use Rattle.laws.specs.Run.{Outcome, none, live, run}
+use Rattle.laws.specs.Answer.{Answer, ran, unfit, answered, SmallBy}
+use Rattle.laws.specs.Run.{Outcome, live, dropped}
 use Rattle.octets.specs.Octets.{ascii}
-use Rattle.single.specs.Class.{caselessOf, alphabetic, unless255, space}
+use Rattle.single.specs.Class.{caselessOf, alphabetic, unless255}
 use Rattle.laws.specs.Limit.{room}
-use Rattle.single.specs.Fit.{Common, commonB, fitB}
+use Rattle.single.specs.Answers.{closeBy, ranBy, closedBy}
+use Rattle.single.specs.Fit.{Common, commonB}
 use Rattle.single.specs.Lent.{Lent}
 use Rattle.single.specs.Pair.{asciiPair, gainOf}
 use Rattle.single.specs.Punctuation.{punctuationOf, countOf}
@@ -44,9 +44,8 @@ module _ (t : Lent) where
   unfoldable pub stepOf : Visual → ℕ → Outcome Visual
   stepOf m b = unless255 t b (live (nextOf m b) (gainOf t (m .prev) (m .«prev_ascii») b))
 
-  -- the end of the stream is a space
-  abbrev pub closeOf : Visual → Outcome Visual
-  closeOf m = stepOf m space
+abbrev pub closeOf : Lent → Visual → Outcome Visual
+closeOf t m = closeBy stepOf t m
 
 -- what n bytes can have led to
 pub record Sound (n : ℕ) (m : Visual) : Type 0 where
@@ -57,18 +56,20 @@ abbrev pub soundB : ℕ → Visual → Bool
 soundB n m = leb (m .«plausible_punctuation») n && commonB n (m .prev) (m .«current_word_len») (m .«longest_word»)
 
 -- ---- the answers
+abbrev pub answerOf : Ran → Answer Visual
+answerOf (Live m s) = ran (live m s)
+answerOf Dropped = ran dropped
+answerOf Unfit = unfit
+
 abbrev pub ranAs : Outcome Visual → Ran
-ranAs (none d) = Dropped
-ranAs (live m s) = Live m s
+ranAs o = answered Live Dropped o
 
 unfoldable pub ranOf : Lent → Visual → List ℕ → Ran
-ranOf t m xs = cond (fitB t (soundB room m) (length xs)) (ranAs (run (stepOf t) (live m (pos 0)) xs)) Unfit
+ranOf t m xs = ranBy stepOf (soundB room) Live Dropped Unfit t m xs
 
 unfoldable pub closedOf : Lent → Visual → Ran
-closedOf t m = cond (fitB t (soundB room m) 0) (ranAs (closeOf t m)) Unfit
+closedOf t m = closedBy stepOf (soundB room) Live Dropped Unfit t m
 
--- a live answer's score has at most this size
+-- a live answer's score changes by at most c
 abbrev pub Small : ℕ → Ran → Type 0
-Small c (Live m s) = natAbs s ≤ c
-Small c Dropped = Unit {0}
-Small c Unfit = Unit {0}
+Small c r = SmallBy c (answerOf r)

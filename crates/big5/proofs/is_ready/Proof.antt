@@ -1,9 +1,7 @@
 -- `is_ready` meets its contract. Assumes nothing.
-use mathlib.Core.Path.{_≡_, sym, _∙_}
-use mathlib.Core.Bool.{true, false}
+use mathlib.Core.Path.{sym, _∙_}
 use borrow.Author.Tests.{le-leb, lt-leb, eq-eqb, ne-eqb}
-use Rattle.laws.specs.Limit.{limit}
-use Rattle.big5.specs.Big5.{soundB, readyB}
+use Rattle.big5.specs.Big5.{readyB}
 use borrow.Author.Needs.{needs}
 use Rattle.big5.proofs.is_ready.Statement.{statement}
 use Rattle.big5.proofs.is_ready.Tie as tie
@@ -13,19 +11,19 @@ is-sound-for-requires c κs = search needs
 
 returns : tie.Need-returns
 unfolding readyB
-returns c = let t : soundB limit (c .before .before .before .before .before .before .args .m) ≡ true = sym (c .before .before .before .is-sound-for .ensures) ∙ c .before .before .if1 .taken in rw (t, le-leb _ _ (c .before .if2 .taken), eq-eqb _ _ (c .if3 .taken))
+returns c = rw (sym (c .before .before .before .is-sound-for .ensures) ∙ c .before .before .if1 .taken, le-leb _ _ (c .before .if2 .taken), eq-eqb _ _ (c .if3 .taken))
 
 returns-2 : tie.Need-returns-2
 unfolding readyB
-returns-2 c = let t : soundB limit (c .before .before .before .before .before .before .args .m) ≡ true = sym (c .before .before .before .is-sound-for .ensures) ∙ c .before .before .if1 .taken in rw (t, le-leb _ _ (c .before .if2 .taken), ne-eqb _ _ (c .if3 .left))
+returns-2 c = rw (sym (c .before .before .before .is-sound-for .ensures) ∙ c .before .before .if1 .taken, le-leb _ _ (c .before .if2 .taken), ne-eqb _ _ (c .if3 .left))
 
 returns-3 : tie.Need-returns-3
 unfolding readyB
-returns-3 c = let t : soundB limit (c .before .before .before .before .before .args .m) ≡ true = sym (c .before .before .is-sound-for .ensures) ∙ c .before .if1 .taken in rw (t, lt-leb _ _ (c .if2 .left))
+returns-3 c = rw (sym (c .before .before .is-sound-for .ensures) ∙ c .before .if1 .taken, lt-leb _ _ (c .if2 .left))
 
 returns-4 : tie.Need-returns-4
 unfolding readyB
-returns-4 c = let t : soundB limit (c .before .before .before .before .args .m) ≡ false = sym (c .before .is-sound-for .ensures) ∙ c .if1 .left in rw t
+returns-4 c = rw (sym (c .before .is-sound-for .ensures) ∙ c .if1 .left) (c .if1 .left)
 
 pub is-ready-spec : {M : Type 1} → statement M
 is-ready-spec = tie.close (tie.spec is-sound-for-requires returns returns-2 returns-3 returns-4)

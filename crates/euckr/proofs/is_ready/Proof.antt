@@ -1,10 +1,8 @@
 -- `is_ready` meets its contract. Assumes nothing.
-use mathlib.Core.Path.{_≡_, sym, _∙_}
-use mathlib.Core.Bool.{true, false}
+use mathlib.Core.Path.{sym, _∙_}
 use borrow.Author.Needs.{needs}
 use borrow.Author.Tests.{le-leb, lt-leb}
-use Rattle.laws.specs.Limit.{limit, room}
-use Rattle.euckr.specs.EucKr.{soundB, readyB}
+use Rattle.euckr.specs.EucKr.{readyB}
 use Rattle.euckr.proofs.is_ready.Statement.{statement}
 use Rattle.euckr.proofs.is_ready.Tie as tie
 
@@ -16,24 +14,15 @@ is-lent-requires c κs = search needs
 
 returns : tie.Need-returns
 unfolding readyB
-returns c =
-    let s = c .before .before .before .before .before .before in
-    let t : soundB room (s .args .m) ≡ true = sym (c .before .before .before .is-sound-for .ensures) ∙ c .before .before .if1 .taken in
-    rw (t, le-leb _ _ (c .before .if2 .taken)) (c .is-lent .ensures)
+returns c = rw (sym (c .before .before .before .is-sound-for .ensures) ∙ c .before .before .if1 .taken, le-leb _ _ (c .before .if2 .taken)) (c .is-lent .ensures)
 
 returns-2 : tie.Need-returns-2
 unfolding readyB
-returns-2 c =
-    let s = c .before .before .before .before .before in
-    let t : soundB room (s .args .m) ≡ true = sym (c .before .before .is-sound-for .ensures) ∙ c .before .if1 .taken in
-    rw (t, lt-leb _ _ (c .if2 .left))
+returns-2 c = rw (sym (c .before .before .is-sound-for .ensures) ∙ c .before .if1 .taken, lt-leb _ _ (c .if2 .left))
 
 returns-3 : tie.Need-returns-3
 unfolding readyB
-returns-3 c =
-    let s = c .before .before .before .before in
-    let t : soundB room (s .args .m) ≡ false = sym (c .before .is-sound-for .ensures) ∙ c .if1 .left in
-    rw t
+returns-3 c = rw (sym (c .before .is-sound-for .ensures) ∙ c .if1 .left) (c .if1 .left)
 
 pub is-ready-spec : {M : Type 1} → statement M
 is-ready-spec = tie.close (tie.spec is-sound-for-requires is-lent-requires returns returns-2 returns-3)

@@ -1,16 +1,19 @@
 -- `ArabicFrench::step` meets its contract. Assumes nothing.
-use mathlib.Core.Path.{_≡_, sym, ap, _∙_}
+use mathlib.Core.Path.{_≡_}
 use native.Mathlib.Omega.{arith}
-use lib.IntN.{ℤ, natAbs, _+ℤ_}
-use Prim.Native.Nat.{_≤_}
+use lib.IntN.{ℤ, _+ℤ_}
 use mir.Syntax.{w64}
 use mir.Val.{toZ, ofZ}
 use Rattle.laws.specs.Sizes.{abs-add, sum-fits, thru, thru64}
-use Rattle.arabic_french.specs.ArabicFrenchLaws.{step-dropped, step-live}
+use Rattle.arabic_french.specs.ArabicFrench.{stepOf}
+use borrow.Author.Tests.{eq-eqb, ne-eqb}
 use Rattle.single.specs.WordsLaws.{words-kept}
 use borrow.Author.Needs.{needs}
 use Rattle.arabic_french.proofs.ArabicFrench.step.Statement.{statement}
 use Rattle.arabic_french.proofs.ArabicFrench.step.Tie as tie
+
+sums : {a b x y : ℤ} → a ≡ x → b ≡ y → a +ℤ b ≡ x +ℤ y
+sums p q = rw (p, q)
 
 -- the two terms, and their sum, as the code reads them
 module _ (c : tie.After-gain2) where
@@ -33,7 +36,8 @@ shared-slice-read-class : tie.Need-shared-slice-read-class
 shared-slice-read-class c = search needs
 
 returns : tie.Need-returns
-returns c = (step-dropped _ _ _ (c .if1 .taken), tt)
+unfolding stepOf
+returns c = (rw (eq-eqb _ _ (c .if1 .taken)), tt)
 
 is-non-latin-alphabetic-requires : tie.Need-is-non-latin-alphabetic-requires
 is-non-latin-alphabetic-requires c κs = search needs
@@ -60,6 +64,7 @@ is-ascii-requires : tie.Need-is-ascii-requires
 is-ascii-requires c κs = search needs
 
 returns-2 : tie.Need-returns-2
+unfolding stepOf
 returns-2 c =
     let q = c .before .before in
     let g = q .before in
@@ -69,7 +74,7 @@ returns-2 c =
     let v = words-kept (w .words-after .result) (s .args .self .«current_word_len») (s .args .self .«longest_word») (a .is-non-latin-alphabetic .result) (omega (arith, s .pre .1 .word-most)) (w .words-after .ensures) in
     let p = rw (g .before .is-ascii-pair .ensures) at (g .gain .ensures .0) in
     let k = rw (g .before .is-ascii-pair .ensures) at (q .gain2 .ensures .0) in
-    (rw (read-sum q) (step-live _ (s .args .self) (s .args .b) _ (pair q) (caseGain q) (a .before .if1 .left) (rw (c .before .after .ensures, c .is-ascii .ensures, v .0, v .1, a .is-non-latin-alphabetic .ensures)) p k), rw (read-sum q) (omega (arith, abs-add (pair q) (caseGain q), g .gain .ensures .1, q .gain2 .ensures .1)))
+    (rw (ne-eqb _ _ (a .before .if1 .left), read-sum q, sums p k, c .before .after .ensures, c .is-ascii .ensures, v .0, v .1, a .is-non-latin-alphabetic .ensures), rw (read-sum q) (omega (arith, abs-add (pair q) (caseGain q), g .gain .ensures .1, q .gain2 .ensures .1)))
 
 pub step-spec : {M : Type 1} → statement M
 step-spec =

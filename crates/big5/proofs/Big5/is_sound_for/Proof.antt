@@ -1,7 +1,5 @@
 -- `Big5::is_sound_for` meets its contract. Assumes nothing.
-use mathlib.Core.Path.{_≡_, sym, _∙_}
-use mathlib.Core.Bool.{true, false}
-use Rattle.pairs.specs.Pairs.{isLeadOrNone}
+use mathlib.Core.Path.{sym, _∙_}
 use Rattle.big5.specs.Big5.{soundB}
 use borrow.Author.Needs.{needs}
 use Rattle.big5.proofs.Big5.is_sound_for.Statement.{statement}
@@ -15,15 +13,11 @@ is-small-requires c κs = search needs
 
 returns : tie.Need-returns
 unfolding soundB
-returns c =
-    let t : isLeadOrNone (c .before .before .before .args .self .lead) ≡ true = sym (c .before .before .is-lead-or-none .ensures) ∙ c .before .if1 .taken in
-    rw t (c .is-small .ensures)
+returns c = rw (sym (c .before .before .is-lead-or-none .ensures) ∙ c .before .if1 .taken) (c .is-small .ensures)
 
 returns-2 : tie.Need-returns-2
 unfolding soundB
-returns-2 c =
-    let t : isLeadOrNone (c .before .before .args .self .lead) ≡ false = sym (c .before .is-lead-or-none .ensures) ∙ c .if1 .left in
-    rw t
+returns-2 c = rw (sym (c .before .is-lead-or-none .ensures) ∙ c .if1 .left) (c .if1 .left)
 
 pub is-sound-for-spec : {M : Type 1} → statement M
 is-sound-for-spec =

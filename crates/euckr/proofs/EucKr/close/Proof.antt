@@ -1,9 +1,8 @@
 -- `EucKr::close` meets its contract. Assumes nothing.
-use mathlib.Core.Path.{_≡_, sym, _∙_}
-use mathlib.Core.Bool.{true, false}
+use mathlib.Core.Path.{sym, _∙_}
 use borrow.Author.Tests.{eq-eqb, ne-eqb}
-use Rattle.laws.specs.Limit.{room}
-use Rattle.euckr.specs.EucKr.{soundB, closedOf}
+use Rattle.laws.specs.Answer.{answeredIf}
+use Rattle.euckr.specs.EucKr.{closedOf}
 use borrow.Author.Needs.{needs}
 use Rattle.euckr.proofs.EucKr.close.Statement.{statement}
 use Rattle.euckr.proofs.EucKr.close.Tie as tie
@@ -12,25 +11,16 @@ is-sound-for-requires : tie.Need-is-sound-for-requires
 is-sound-for-requires c κs = search needs
 
 returns : tie.Need-returns
-unfolding closedOf
-returns c =
-    let s = c .before .before .before .before in
-    let t : soundB room (s .args .self) ≡ true = sym (c .before .before .before .is-sound-for .ensures) ∙ c .before .before .if1 .taken in
-    rw (t, eq-eqb _ _ (c .if2 .taken))
+unfolding closedOf answeredIf
+returns c = rw (sym (c .before .before .before .is-sound-for .ensures) ∙ c .before .before .if1 .taken, eq-eqb _ _ (c .if2 .taken))
 
 returns-2 : tie.Need-returns-2
-unfolding closedOf
-returns-2 c =
-    let s = c .before .before .before .before in
-    let t : soundB room (s .args .self) ≡ true = sym (c .before .before .before .is-sound-for .ensures) ∙ c .before .before .if1 .taken in
-    rw (t, ne-eqb _ _ (c .if2 .left))
+unfolding closedOf answeredIf
+returns-2 c = rw (sym (c .before .before .before .is-sound-for .ensures) ∙ c .before .before .if1 .taken, ne-eqb _ _ (c .if2 .left))
 
 returns-3 : tie.Need-returns-3
-unfolding closedOf
-returns-3 c =
-    let s = c .before .before in
-    let t : soundB room (s .args .self) ≡ false = sym (c .before .is-sound-for .ensures) ∙ c .if1 .left in
-    rw t
+unfolding closedOf answeredIf
+returns-3 c = rw (sym (c .before .is-sound-for .ensures) ∙ c .if1 .left)
 
 pub close-spec : {M : Type 1} → statement M
 close-spec = tie.close (tie.spec is-sound-for-requires returns returns-2 returns-3)

@@ -1,8 +1,6 @@
 -- `EucKr::is_sound_for` meets its contract. Assumes nothing.
-use mathlib.Core.Path.{_≡_, sym, _∙_}
-use mathlib.Core.Bool.{true, false}
+use mathlib.Core.Path.{sym, _∙_}
 use borrow.Author.Tests.{le-leb, lt-leb}
-use Rattle.pairs.specs.Pairs.{isLeadOrNone}
 use Rattle.euckr.specs.EucKr.{soundB}
 use borrow.Author.Needs.{needs}
 use Rattle.euckr.proofs.EucKr.is_sound_for.Statement.{statement}
@@ -16,24 +14,15 @@ is-small-requires c κs = search needs
 
 returns : tie.Need-returns
 unfolding soundB
-returns c =
-    let s = c .before .before .before .before .before in
-    let t : isLeadOrNone (s .args .self .lead) ≡ true = sym (c .before .before .before .before .is-lead-or-none .ensures) ∙ c .before .before .before .if1 .taken in
-    rw (t, le-leb _ _ (c .before .if2 .taken)) (c .is-small .ensures)
+returns c = rw (sym (c .before .before .before .before .is-lead-or-none .ensures) ∙ c .before .before .before .if1 .taken, le-leb _ _ (c .before .if2 .taken)) (c .is-small .ensures)
 
 returns-2 : tie.Need-returns-2
 unfolding soundB
-returns-2 c =
-    let s = c .before .before .before .before in
-    let t : isLeadOrNone (s .args .self .lead) ≡ true = sym (c .before .before .before .is-lead-or-none .ensures) ∙ c .before .before .if1 .taken in
-    rw (t, lt-leb _ _ (c .if2 .left))
+returns-2 c = rw (sym (c .before .before .before .is-lead-or-none .ensures) ∙ c .before .before .if1 .taken, lt-leb _ _ (c .if2 .left))
 
 returns-3 : tie.Need-returns-3
 unfolding soundB
-returns-3 c =
-    let s = c .before .before in
-    let t : isLeadOrNone (s .args .self .lead) ≡ false = sym (c .before .is-lead-or-none .ensures) ∙ c .if1 .left in
-    rw t
+returns-3 c = rw (sym (c .before .is-lead-or-none .ensures) ∙ c .if1 .left) (c .if1 .left)
 
 pub is-sound-for-spec : {M : Type 1} → statement M
 is-sound-for-spec =

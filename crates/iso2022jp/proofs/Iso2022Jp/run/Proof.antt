@@ -1,8 +1,11 @@
 -- `Iso2022Jp::run` meets its contract. Assumes nothing.
 use mathlib.Core.Path.{sym, _∙_}
+use mathlib.Core.Bool.{and-false}
 use borrow.Author.Needs.{needs}
-use Rattle.iso2022jp.specs.Iso2022Jp.{Ready}
-use Rattle.iso2022jp.specs.Iso2022JpLaws.{true-sound, ran-ready, ran-unsound, ran-unsized, ran-long}
+use borrow.Author.Tests.{lt-leb, ne-eqb}
+use Rattle.laws.specs.Answer.{if-unfit}
+use Rattle.iso2022jp.specs.Iso2022Jp.{Ready, readyB, ranOf}
+use Rattle.iso2022jp.specs.Iso2022JpLaws.{sound-true, ran-ready}
 use Rattle.iso2022jp.proofs.Iso2022Jp.run.Statement.{statement}
 use Rattle.iso2022jp.proofs.Iso2022Jp.run.Tie as tie
 
@@ -10,25 +13,28 @@ use Rattle.iso2022jp.proofs.Iso2022Jp.run.Tie as tie
 ready : (c : tie.Then3) → (let a = c .before .before .before .before .before .before .args in Ready (a .index .now) (a .self) (a .part .now))
 ready c =
     let t = c .before .before in
-    record { sound = true-sound (t .before .before .before .before .args .self) (sym (t .before .is-sound .ensures) ∙ t .if1 .taken); sized = c .before .if2 .taken; short = c .if3 .taken }
+    record { sound = sound-true (t .before .before .before .before .args .self) (sym (t .before .is-sound .ensures) ∙ t .if1 .taken); sized = c .before .if2 .taken; short = c .if3 .taken }
 
 is-sound-requires : tie.Need-is-sound-requires
 is-sound-requires c κs = search needs
 
-go-requires : tie.Need-go-requires
-go-requires c κs = (ready c .sound, ready c .sized)
+feed-requires : tie.Need-feed-requires
+feed-requires c κs = (ready c .sound, ready c .sized)
 
 returns : tie.Need-returns
-returns c = c .go .ensures ∙ sym (ran-ready _ _ _ (ready (c .before)))
+returns c = c .feed .ensures ∙ sym (ran-ready _ _ _ (ready (c .before)))
 
 returns-2 : tie.Need-returns-2
-returns-2 c = ran-long _ _ _ (c .if3 .left)
+unfolding ranOf readyB
+returns-2 c = sym (if-unfit _ _ _ _ _ (rw (lt-leb _ _ (c .if3 .left), and-false, and-false)))
 
 returns-3 : tie.Need-returns-3
-returns-3 c = ran-unsized _ _ _ (c .if2 .left)
+unfolding ranOf readyB
+returns-3 c = sym (if-unfit _ _ _ _ _ (rw (ne-eqb _ _ (c .if2 .left), and-false)))
 
 returns-4 : tie.Need-returns-4
-returns-4 c = ran-unsound _ _ _ (sym (c .before .is-sound .ensures) ∙ c .if1 .left)
+unfolding ranOf readyB
+returns-4 c = sym (if-unfit _ _ _ _ _ (rw (sym (c .before .is-sound .ensures) ∙ c .if1 .left)))
 
 pub run-spec : {M : Type 1} → statement M
-run-spec = tie.close (tie.spec is-sound-requires go-requires returns returns-2 returns-3 returns-4)
+run-spec = tie.close (tie.spec is-sound-requires feed-requires returns returns-2 returns-3 returns-4)

@@ -1,0 +1,71 @@
+-- `Utf8::feed` meets its contract: the loop of `Going`, whose measure is what is left of the part. Assumes nothing.
+use mathlib.Core.Path.{ap, sym, _∙_}
+use Prim.Native.Nat.{_-_}
+use native.Mathlib.Omega.{arith}
+use borrow.Author.Needs.{needs}
+use lib.IntN.{pos}
+use lib.ListN.{length}
+use Rattle.laws.specs.Going.{Going, going-start, going-still, going-none, going-done}
+use Rattle.utf8.specs.Utf8.{Sound, outOf, ranAs, stepOf}
+use Rattle.utf8.specs.Utf8Laws.{step-live}
+use Rattle.utf8.proofs.Utf8.feed.Statement.{statement}
+use Rattle.utf8.proofs.Utf8.feed.Tie as tie
+
+abbrev Inv-loop : tie.InvT-loop
+Inv-loop part m₀ i₀ m i = Going stepOf (λ n. Sound) 0 0 m₀ part i m (pos 0)
+
+abbrev μ-loop : tie.MeasureT-loop
+μ-loop part m₀ i₀ m i = length part - i
+
+loop-holds : tie.Need-loop-holds Inv-loop μ-loop
+loop-holds c = going-start (c .before .pre)
+
+shared-slice-read-step : tie.Need-shared-slice-read-step Inv-loop μ-loop
+shared-slice-read-step c = search needs
+
+step-requires : tie.Need-step-requires Inv-loop μ-loop
+step-requires c κs = search needs
+
+enum-known-next : tie.Need-enum-known-next Inv-loop μ-loop
+enum-known-next c = search needs
+
+enum-told : tie.Need-enum-told Inv-loop μ-loop
+enum-told c = search needs
+
+returns : tie.Need-returns Inv-loop μ-loop
+returns c =
+    let t = c .before .before .before .before in
+    ap ranAs (going-none (t .before .loop .inv) (t .loop-test .taken) (sym (c .before .before .step .ensures) ∙ ap outOf (c .enum-told .given .1)))
+
+add-i : tie.Need-add-i Inv-loop μ-loop
+add-i c = omega arith
+
+loop-less : tie.Need-loop-less Inv-loop μ-loop
+loop-less c = omega arith
+
+loop-again : tie.Need-loop-again Inv-loop μ-loop
+loop-again c =
+    let t = c .before .before .before .before .before in
+    let going = t .before .loop .inv in
+    let e = sym (c .before .before .before .step .ensures) ∙ ap outOf (c .before .next .given .1) in
+    going-still going (t .loop-test .taken) e (step-live _ _ _ _ (going .sound) e)
+
+returns-2 : tie.Need-returns-2 Inv-loop μ-loop
+returns-2 c = ap ranAs (going-done (c .before .loop .inv) (omega arith))
+
+pub feed-spec : {M : Type 1} → statement M
+feed-spec =
+    tie.close
+    (tie.spec
+    Inv-loop
+    μ-loop
+    loop-holds
+    shared-slice-read-step
+    step-requires
+    enum-known-next
+    enum-told
+    returns
+    add-i
+    loop-less
+    loop-again
+    returns-2)
