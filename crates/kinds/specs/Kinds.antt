@@ -155,8 +155,8 @@ Small c Unfit = Unit {0}
 
 -- a live answer of the two machines that hold scores came of weights of 32 bits
 abbrev pub WeighedIn : Machine → List ℤ → Type 0
-WeighedIn (EucKr m) w = euckr.Small (euckr-scoring.scaleOf w)
-WeighedIn (Big5 m) w = big5.Small (big5-scoring.scaleOf w)
+WeighedIn (EucKr m) w = euckr.SmallScale (euckr-scoring.scaleOf w)
+WeighedIn (Big5 m) w = big5.SmallScale (big5-scoring.scaleOf w)
 WeighedIn (Utf8 m) w = Unit {0}
 WeighedIn (Iso2022Jp m) w = Unit {0}
 WeighedIn (Caseless m) w = Unit {0}

@@ -7,6 +7,7 @@ use native.Mathlib.Omega.{arith}
 use lib.Dec.{eqb}
 use lib.IntN.{ℤ, pos}
 use lib.ListN.{length}
+use Rattle.laws.specs.Answer.{answeredIf}
 use Rattle.laws.specs.Carried.{carried, run-carried}
 use Rattle.laws.specs.Limit.{limit, room}
 use Rattle.laws.specs.Run.{dropout, Outcome, none, live, run}
@@ -105,11 +106,9 @@ still-answer P wrap answer none-is live-is (none d) h = none-is
 still-answer P wrap answer none-is live-is (live m s) h = live-is m s ∙ ap (Live (wrap m)) (sym (h .1))
 
 utf-8-answer : (o : Outcome Utf8Record) → Ends utf-8.Sound (pos 0) o → ofUtf8 (utf-8.ranAs o) ≡ ranAs (carried Utf8 o)
-unfolding utf-8.ranAs
 utf-8-answer o h = still-answer utf-8.Sound Utf8 (λ (p : Outcome Utf8Record). ofUtf8 (utf-8.ranAs p)) refl (λ (m : Utf8Record) (s : ℤ). refl) o h
 
 iso2022jp-answer : (o : Outcome Iso2022JpRecord) → Ends iso2022jp.Sound (pos 0) o → ofIso2022Jp (iso2022jp.ranAs o) ≡ ranAs (carried Iso2022Jp o)
-unfolding iso2022jp.ranAs
 iso2022jp-answer o h = still-answer iso2022jp.Sound Iso2022Jp (λ (p : Outcome Iso2022JpRecord). ofIso2022Jp (iso2022jp.ranAs p)) refl (λ (m : Iso2022JpRecord) (s : ℤ). refl) o h
 
 euckr-answer : (o : Outcome EucKrRecord) → ofEucKr (euckr.ranAs o) ≡ ranAs (carried EucKr o)
@@ -142,7 +141,7 @@ unfolding ranAs carried
 arabicFrench-answer (none d) = refl
 arabicFrench-answer (live m s) = refl
 
--- ---- the ends that change no score, and the two whose test the machine's crate does not lift
+-- ---- the ends that change no score
 pub utf-8-still : (m : Utf8Record) → utf-8.Sound m → Ends utf-8.Sound (pos 0) (utf-8.closeOf m)
 unfolding utf-8.closeOf
 utf-8-still m o = either (Ends utf-8.Sound (pos 0)) (eqb (m .need) 0) (λ e. (o, refl)) (λ e. tt)
@@ -159,14 +158,6 @@ iso2022jp-still-in D.Escape m o = tt
 
 pub iso2022jp-still : (m : Iso2022JpRecord) → iso2022jp.Sound m → Ends iso2022jp.Sound (pos 0) (iso2022jp.closeOf m)
 iso2022jp-still m o = iso2022jp-still-in (m .state) m o
-
-euckr-closed : (m : EucKrRecord) → euckr.Sound room m → euckr.closedOf m ≡ euckr.ranAs (euckr.closeOf m)
-unfolding euckr.closedOf
-euckr-closed m o = rw (euckr-laws.true-sound room m o)
-
-big5-closed : (m : Big5Record) → big5.Sound limit m → big5.closedOf m ≡ big5.ranAs (big5.closeOf m)
-unfolding big5.closedOf
-big5-closed m o = rw (big5-laws.true-sound limit m o)
 
 module _ (t : Own) where
   -- ---- a stretch: what the code answers is the outcome of the run
@@ -191,8 +182,8 @@ module _ (t : Own) where
   unfolding closedOf closeOf
   closed-fit (Utf8 m) z o = ap ofUtf8 (utf-8-laws.closed-ready m o) ∙ utf-8-answer (utf-8.closeOf m) (utf-8-still m o)
   closed-fit (Iso2022Jp m) z o = ap ofIso2022Jp (iso2022jp-laws.closed-ready m o) ∙ iso2022jp-answer (iso2022jp.closeOf m) (iso2022jp-still m o)
-  closed-fit (EucKr m) z o = ap ofEucKr (euckr-closed m (euckr-laws.sound-more (2 * limit) room m (omega arith) o)) ∙ euckr-answer (euckr.closeOf m)
-  closed-fit (Big5 m) z o = ap ofBig5 (big5-closed m (big5-laws.sound-any (2 * limit) limit m o)) ∙ big5-answer (big5.closeOf m)
+  closed-fit (EucKr m) z o = ap ofEucKr (euckr-laws.closed-ready m (euckr-laws.sound-more (2 * limit) room m (omega arith) o)) ∙ euckr-answer (euckr.closeOf m)
+  closed-fit (Big5 m) z o = ap ofBig5 (big5-laws.closed-ready m (big5-laws.sound-any (2 * limit) limit m o)) ∙ big5-answer (big5.closeOf m)
   closed-fit (Caseless m) z o = ap ofCaseless (caseless-laws.closed-fit (lentTo t) m (record { sized = z; sound = caseless-laws.sound-more (2 * limit) room m (omega arith) (o .1); short = omega arith })) ∙ caseless-answer _
   closed-fit (Logical m) z o = ap ofLogical (logical-laws.closed-fit (lentTo t) m (record { sized = z; sound = logical-laws.sound-more (2 * limit) room m (omega arith) (o .1 .1); short = omega arith })) ∙ logical-answer _
   closed-fit (Visual m) z o = ap ofVisual (visual-laws.closed-fit (lentTo t) m (record { sized = z; sound = visual-laws.sound-more (2 * limit) room m (omega arith) (o .1); short = omega arith })) ∙ visual-answer _
@@ -210,12 +201,12 @@ module _ (c : ℕ) where
   small-iso2022jp iso2022jp-ran.Dropped = tt
   small-iso2022jp iso2022jp-ran.Unfit = tt
 
-  pub small-euckr : (r : EucKrRan) → euckr.Bounded c r → Small c (ofEucKr r)
+  pub small-euckr : (r : EucKrRan) → euckr.Small c r → Small c (ofEucKr r)
   small-euckr (euckr-ran.Live m s) h = h
   small-euckr euckr-ran.Dropped h = tt
   small-euckr euckr-ran.Unfit h = tt
 
-  pub small-big5 : (r : Big5Ran) → big5.Bounded c r → Small c (ofBig5 r)
+  pub small-big5 : (r : Big5Ran) → big5.Small c r → Small c (ofBig5 r)
   small-big5 (big5-ran.Live m s) h = h
   small-big5 big5-ran.Dropped h = tt
   small-big5 big5-ran.Unfit h = tt
@@ -241,19 +232,19 @@ module _ (c : ℕ) where
   small-arabicFrench arabicFrench-ran.Unfit h = tt
 
   -- the end of the stream changes no score of it
-  pub closed-euckr : (m : EucKrRecord) → euckr.Bounded c (euckr.closedOf m)
-  unfolding euckr.closedOf
+  pub closed-euckr : (m : EucKrRecord) → euckr.Small c (euckr.closedOf m)
+  unfolding euckr.closedOf answeredIf
   closed-euckr m =
-      either (euckr.Bounded c) (euckr.soundB room m)
-      (λ e. either (λ (o : Outcome EucKrRecord). euckr.Bounded c (euckr.ranAs o)) (eqb (m .lead) 0) (λ e. omega arith) (λ e. tt))
+      either (euckr.Small c) (euckr.soundB room m)
+      (λ e. either (λ (o : Outcome EucKrRecord). euckr.Small c (euckr.ranAs o)) (eqb (m .lead) 0) (λ e. omega arith) (λ e. tt))
       (λ e. tt)
 
   -- the end of the stream changes no score of it
-  pub closed-big5 : (m : Big5Record) → big5.Bounded c (big5.closedOf m)
-  unfolding big5.closedOf
+  pub closed-big5 : (m : Big5Record) → big5.Small c (big5.closedOf m)
+  unfolding big5.closedOf answeredIf
   closed-big5 m =
-      either (big5.Bounded c) (big5.soundB limit m)
-      (λ e. either (λ (o : Outcome Big5Record). big5.Bounded c (big5.ranAs o)) (eqb (m .lead) 0) (λ e. omega arith) (λ e. tt))
+      either (big5.Small c) (big5.soundB limit m)
+      (λ e. either (λ (o : Outcome Big5Record). big5.Small c (big5.ranAs o)) (eqb (m .lead) 0) (λ e. omega arith) (λ e. tt))
       (λ e. tt)
 
 module _ (w : List ℤ) where

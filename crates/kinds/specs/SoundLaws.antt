@@ -54,8 +54,8 @@ use Rattle.kinds.specs.declared.machine.Machine.the-variants.{Utf8, Iso2
 module _ (n reach : ℕ) where
   pub sound-true : (m : Machine) → soundB n reach m ≡ true → SoundFor n reach m
   unfolding soundB soundLogicalB
-  sound-true (Utf8 m) e = utf-8-laws.true-sound m e
-  sound-true (Iso2022Jp m) e = iso2022jp-laws.true-sound m e
+  sound-true (Utf8 m) e = utf-8-laws.sound-true m e
+  sound-true (Iso2022Jp m) e = iso2022jp-laws.sound-true m e
   sound-true (EucKr m) e = euckr-laws.sound-true n m e
   sound-true (Big5 m) e = big5-laws.sound-true n m e
   sound-true (Caseless m) e = let h = both _ _ e in (leb-true _ _ (h .0), caseless-laws.sound-true reach m (h .1))
@@ -65,8 +65,8 @@ module _ (n reach : ℕ) where
 
   pub true-sound : (m : Machine) → SoundFor n reach m → soundB n reach m ≡ true
   unfolding soundB soundLogicalB
-  true-sound (Utf8 m) o = utf-8-laws.sound-true m o
-  true-sound (Iso2022Jp m) o = iso2022jp-laws.sound-true m o
+  true-sound (Utf8 m) o = utf-8-laws.true-sound m o
+  true-sound (Iso2022Jp m) o = iso2022jp-laws.true-sound m o
   true-sound (EucKr m) o = euckr-laws.true-sound n m o
   true-sound (Big5 m) o = big5-laws.true-sound n m o
   true-sound (Caseless m) o = rw (le-leb _ _ (o .0), caseless-laws.true-sound reach m (o .1))
