@@ -3,7 +3,7 @@ use mathlib.Core.Path.{_≡_, refl, sym, ap, subst, _∙_}
 use mathlib.Core.Bool.{Bool, true, false, cond, _&&_, and-false}
 use mathlib.Core.List.{List, [], _∷_}
 use Prim.Native.Nat.{ℕ, zero, suc, _+_, _*_, _/_, _%_, _≤_, _<_}
-use native.Mathlib.Nat.{not-suc-le-zero, zero-add, add-zero}
+use native.Mathlib.Nat.{le-of-suc-le-suc, not-suc-le-zero, zero-add, add-zero}
 use native.Mathlib.Numerals.{add-one}
 use native.Mathlib.Omega.{arith}
 use lib.Dec.{eqb, leb}
@@ -165,6 +165,18 @@ feed-from-nil t k (p ∷ ps) = rw (feed-nil (ownOf t k) p, feed-from-nil t (suc 
 
 pub feed-all-nil : (t : Tables) (ps : List Place) → feedAll t false [] ps ≡ ps
 feed-all-nil t ps = feed-from-nil t 0 ps
+
+-- what a part makes of place k: what it makes of it alone, over its own tables
+feed-from-at : (t : Tables) (last : Bool) (xs : List ℕ) (k : ℕ) (ps : List Place) (d : Place) (i : ℕ) → i < length ps → getD (feedFrom t last xs k ps) i d ≡ feedOf (ownOf t (k + i)) last xs (getD ps i d)
+unfolding feedFrom
+feed-from-at t last xs k [] d i h = absurd (not-suc-le-zero h)
+feed-from-at t last xs k (p ∷ ps) d zero h = rw add-zero
+feed-from-at t last xs k (p ∷ ps) d (suc i) h =
+    let q : suc k + i ≡ k + suc i = omega arith in
+    subst (λ (j : ℕ). getD (feedFrom t last xs (suc k) ps) i d ≡ feedOf (ownOf t j) last xs (getD ps i d)) q (feed-from-at t last xs (suc k) ps d i (le-of-suc-le-suc h))
+
+pub feed-at : (t : Tables) (last : Bool) (xs : List ℕ) (ps : List Place) (d : Place) (k : ℕ) → k < length ps → getD (feedAll t last xs ps) k d ≡ feedOf (ownOf t k) last xs (getD ps k d)
+feed-at t last xs ps d k h = subst (λ (i : ℕ). getD (feedAll t last xs ps) k d ≡ feedOf (ownOf t i) last xs (getD ps k d)) (zero-add k) (feed-from-at t last xs 0 ps d k h)
 
 -- ---- for the code
 score-small : (m : Machine) (c : Score) → ScoredFor limit m c → SmallScore (perByte * limit) c
