@@ -4,7 +4,7 @@ ghost use mathlib.Core.Path.{_≡_};
 ghost use Prim.Native.Nat.{_+_, _≤_};
 ghost use lib.ListN.{length};
 ghost use Rattle.laws.specs.Limit.{limit};
-ghost use Rattle.tables.specs.Tables.{single, singles, tables};
+ghost use Rattle.tables.specs.Tables.{tables};
 ghost use Rattle.state.specs.Order.{InOrder};
 ghost use Rattle.detector.specs.Feed.{verdictOf, accepted, advanceOf, feedOf};
 ghost use Rattle.detector.specs.Kept.{Fit, StaysIn};
@@ -70,8 +70,8 @@ fn advance(
     extras: &[i16],
     weights: &[i32],
 ) -> State
-    requires { ⌜ Fit (tables (singles (single (now classes4) (now marks4) (now pairs4)) (single (now classes5) (now marks5) (now pairs5)) (single (now classes6) (now marks6) (now pairs6)) (single (now classes7) (now marks7) (now pairs7))) (now big5) (now euckr) (now jis) (now extras) (now weights)) state (now chunk) ⌝ }
-    ensures { λ r. ⌜ r ≡ advanceOf (tables (singles (single (now (classes4 .entry)) (now (marks4 .entry)) (now (pairs4 .entry))) (single (now (classes5 .entry)) (now (marks5 .entry)) (now (pairs5 .entry))) (single (now (classes6 .entry)) (now (marks6 .entry)) (now (pairs6 .entry))) (single (now (classes7 .entry)) (now (marks7 .entry)) (now (pairs7 .entry)))) (now (big5 .entry)) (now (euckr .entry)) (now (jis .entry)) (now (extras .entry)) (now (weights .entry))) state (now (chunk .entry)) last ⌝ }
+    requires { ⌜ Fit (tables (now classes4) (now marks4) (now pairs4) (now classes5) (now marks5) (now pairs5) (now classes6) (now marks6) (now pairs6) (now classes7) (now marks7) (now pairs7) (now big5) (now euckr) (now jis) (now extras) (now weights)) state (now chunk) ⌝ }
+    ensures { λ r. ⌜ r ≡ advanceOf (tables (now (classes4 .entry)) (now (marks4 .entry)) (now (pairs4 .entry)) (now (classes5 .entry)) (now (marks5 .entry)) (now (pairs5 .entry)) (now (classes6 .entry)) (now (marks6 .entry)) (now (pairs6 .entry)) (now (classes7 .entry)) (now (marks7 .entry)) (now (pairs7 .entry)) (now (big5 .entry)) (now (euckr .entry)) (now (jis .entry)) (now (extras .entry)) (now (weights .entry))) state (now (chunk .entry)) last ⌝ }
     ensures { λ r. ⌜ InOrder r ⌝ }
 {
     let front = state.front;
@@ -203,7 +203,7 @@ pub fn feed(
     extras: &[i16],
     weights: &[i32],
 ) -> Fed
-    ensures { λ r. ⌜ r ≡ feedOf (tables (singles (single (now (classes4 .entry)) (now (marks4 .entry)) (now (pairs4 .entry))) (single (now (classes5 .entry)) (now (marks5 .entry)) (now (pairs5 .entry))) (single (now (classes6 .entry)) (now (marks6 .entry)) (now (pairs6 .entry))) (single (now (classes7 .entry)) (now (marks7 .entry)) (now (pairs7 .entry)))) (now (big5 .entry)) (now (euckr .entry)) (now (jis .entry)) (now (extras .entry)) (now (weights .entry))) state (now (chunk .entry)) last ⌝ }
+    ensures { λ r. ⌜ r ≡ feedOf (tables (now (classes4 .entry)) (now (marks4 .entry)) (now (pairs4 .entry)) (now (classes5 .entry)) (now (marks5 .entry)) (now (pairs5 .entry)) (now (classes6 .entry)) (now (marks6 .entry)) (now (pairs6 .entry)) (now (classes7 .entry)) (now (marks7 .entry)) (now (pairs7 .entry)) (now (big5 .entry)) (now (euckr .entry)) (now (jis .entry)) (now (extras .entry)) (now (weights .entry))) state (now (chunk .entry)) last ⌝ }
     ensures { λ r. ⌜ StaysIn (r .reply) (r .state) ⌝ }
 {
     let sized = tables::are_sized(

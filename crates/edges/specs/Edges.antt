@@ -15,7 +15,7 @@ use Rattle.big5.specs.Scoring as big5
 use Rattle.big5.specs.declared.LatinCj.the-variants.{Cj, Other}
 use Rattle.euckr.specs.Edges.{Word}
 use Rattle.euckr.specs.declared.EucKr.{EucKr as EucKrRecord}
-use Rattle.tables.specs.Tables.{Tables, tables}
+use Rattle.tables.specs.Tables.{Tables}
 use Rattle.kinds.specs.declared.machine.Machine.the-variants.{Utf8, Iso2022Jp, EucKr, Big5}
 use Rattle.places.specs.Place.{place}
 use Rattle.places.specs.Slate.{takenOf, feedAll}
@@ -42,7 +42,18 @@ Leaves t bits k xs p = takenOf bits (2 ^ k) ≡ Live (pos 0) → (d : Place) →
 -- ---- words of Hangul
 -- the same tables with a long-word weight of 0
 abbrev pub withoutLong : Tables → Tables
-withoutLong t = tables (t .singles) (t .big5) (t .euckr) (t .jis) (t .extras) (set (t .weights) (placeOf longWord) (pos 0))
+withoutLong t =
+    record {
+      caseless = t .caseless;
+      logical = t .logical;
+      visual = t .visual;
+      arabicFrench = t .arabicFrench;
+      big5 = t .big5;
+      euckr = t .euckr;
+      jis = t .jis;
+      extras = t .extras;
+      weights = set (t .weights) (placeOf longWord) (pos 0);
+    }
 
 -- the bytes leave place 2 live, with a score larger by k than with a long-word weight of 0, and else the same
 pub record Adds (t : Tables) (bits : ℕ) (xs : List ℕ) (k : ℤ) : Type 0 where

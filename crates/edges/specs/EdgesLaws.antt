@@ -11,7 +11,6 @@ use lib.ListN.{length, getD, set, length-set}
 use lib.Seq.{getD-set-same, getD-set-other}
 use borrow.Author.Tests.{le-leb, ne-eqb}
 use Rattle.laws.specs.Carried.{carried}
-use Rattle.laws.specs.Each.{map-at}
 use Rattle.laws.specs.Limit.{limit}
 use Rattle.laws.specs.Lists.{count, last}
 use Rattle.laws.specs.Run.{Outcome, live, plus, run}
@@ -39,14 +38,16 @@ use Rattle.euckr.specs.Scoring as euckr
 use Rattle.euckr.specs.declared.EucKr.{EucKr as EucKrRecord}
 use Rattle.kinds.specs.Kinds.{freshIn, stepOf}
 use Rattle.kinds.specs.KindsLaws.{run-utf-8, run-iso2022jp, run-big5, run-euckr}
+use Rattle.tables.specs.Own.{ownOf}
+use Rattle.tables.specs.OwnLaws.{own-sized}
 use Rattle.tables.specs.Tables.{Tables, Sized, sizedB}
-use Rattle.tables.specs.TablesLaws.{lengths-of, true-sized}
+use Rattle.tables.specs.TablesLaws.{true-sized}
 use Rattle.kinds.specs.declared.machine.Machine.{Machine}
 use Rattle.kinds.specs.declared.machine.Machine.the-variants.{Utf8, Iso2022Jp, EucKr, Big5}
 use Rattle.places.specs.Place.{place, placeAs, feedOf as feedPlace}
 use Rattle.places.specs.PlaceLaws.{feed-open}
 use Rattle.places.specs.Slate as slate
-use Rattle.places.specs.SlateLaws.{feed-all-nil}
+use Rattle.places.specs.SlateLaws.{feed-all-nil, feed-at}
 use Rattle.places.specs.declared.place.Place.{Place}
 use Rattle.places.specs.declared.place.Score.the-variants.{Live}
 use Rattle.detector.specs.Feed.{placesBy, advanceOf, accepted, feedOf}
@@ -89,14 +90,14 @@ first-reaches b bs e =
 
 module _ (t : Tables) (z : Sized t) (bits b : ℕ) (bs : List ℕ) (short : length (b ∷ bs) ≤ limit) (e : isTrigger b ≡ true) where
   -- a place that takes part is left with the outcome of its machine's run
-  first-leaves : (k : ℕ) (m : Machine) (o : Outcome Machine) → k < 8 → ((d : Place) → getD (slate.startOf bits) k d ≡ place m (slate.takenOf bits (2 ^ k))) → run (stepOf t) (live m (pos 0)) (b ∷ bs) ≡ o → Leaves t bits k (b ∷ bs) (placeAs m o)
+  first-leaves : (k : ℕ) (m : Machine) (o : Outcome Machine) → k < 8 → ((d : Place) → getD (slate.startOf bits) k d ≡ place m (slate.takenOf bits (2 ^ k))) → run (stepOf (ownOf t k)) (live m (pos 0)) (b ∷ bs) ≡ o → Leaves t bits k (b ∷ bs) (placeAs m o)
   unfolding slate.startOf
   first-leaves k m o h at q take d =
       let ps = slate.startOf bits in
       ap (λ (l : List Place). getD l k d) (first-as t z bits (b ∷ bs) (b ∷ bs) short (first-reaches b bs e) .fed false ∙ ap (slate.feedAll t false (b ∷ bs)) (feed-all-nil t ps))
-      ∙ (map-at (feedPlace t false (b ∷ bs)) k ps d h
-      ∙ (ap (feedPlace t false (b ∷ bs)) (at d ∙ ap (place m) take)
-      ∙ (sym (feed-open t (b ∷ bs) (place m (Live (pos 0))) (pos 0) refl) ∙ ap (placeAs m) q)))
+      ∙ (feed-at t false (b ∷ bs) ps d k h
+      ∙ (ap (feedPlace (ownOf t k) false (b ∷ bs)) (at d ∙ ap (place m) take)
+      ∙ (sym (feed-open (ownOf t k) (b ∷ bs) (place m (Live (pos 0))) (pos 0) refl) ∙ ap (placeAs m) q)))
 
 -- ---- chunks that are saved
 -- a stream of n bytes that has met no trigger
@@ -130,19 +131,19 @@ toBig5 t = big5.lent (t .big5) (big5.scaleOf (t .weights))
 module _ (t : Tables) (z : Sized t) (bits b : ℕ) (bs : List ℕ) (short : length (b ∷ bs) ≤ limit) (e : isTrigger b ≡ true) where
   utf-8-leaves : (o : Outcome Utf8Record) → run utf-8.stepOf (live utf-8.fresh (pos 0)) (b ∷ bs) ≡ o → Leaves t bits 0 (b ∷ bs) (placeAs (Utf8 utf-8.fresh) (carried Utf8 o))
   unfolding slate.startOf
-  utf-8-leaves o q = first-leaves t z bits b bs short e 0 (Utf8 utf-8.fresh) (carried Utf8 o) (omega arith) (λ (d : Place). refl) (run-utf-8 t (pos 0) (b ∷ bs) utf-8.fresh ∙ ap (carried Utf8) q)
+  utf-8-leaves o q = first-leaves t z bits b bs short e 0 (Utf8 utf-8.fresh) (carried Utf8 o) (omega arith) (λ (d : Place). refl) (run-utf-8 (ownOf t 0) (pos 0) (b ∷ bs) utf-8.fresh ∙ ap (carried Utf8) q)
 
   iso2022jp-leaves : (o : Outcome Iso2022JpRecord) → run (iso2022jp.stepOf (t .jis)) (live iso2022jp.fresh (pos 0)) (b ∷ bs) ≡ o → Leaves t bits 1 (b ∷ bs) (placeAs (Iso2022Jp iso2022jp.fresh) (carried Iso2022Jp o))
   unfolding slate.startOf
-  iso2022jp-leaves o q = first-leaves t z bits b bs short e 1 (Iso2022Jp iso2022jp.fresh) (carried Iso2022Jp o) (omega arith) (λ (d : Place). refl) (run-iso2022jp t (pos 0) (b ∷ bs) iso2022jp.fresh ∙ ap (carried Iso2022Jp) q)
+  iso2022jp-leaves o q = first-leaves t z bits b bs short e 1 (Iso2022Jp iso2022jp.fresh) (carried Iso2022Jp o) (omega arith) (λ (d : Place). refl) (run-iso2022jp (ownOf t 1) (pos 0) (b ∷ bs) iso2022jp.fresh ∙ ap (carried Iso2022Jp) q)
 
   euckr-leaves : (o : Outcome EucKrRecord) → run (euckr.stepOf (toEucKr t)) (live euckr.freshOf (pos 0)) (b ∷ bs) ≡ o → Leaves t bits 2 (b ∷ bs) (placeAs (EucKr euckr.freshOf) (carried EucKr o))
   unfolding slate.startOf
-  euckr-leaves o q = first-leaves t z bits b bs short e 2 (EucKr euckr.freshOf) (carried EucKr o) (omega arith) (λ (d : Place). refl) (run-euckr t (pos 0) (b ∷ bs) euckr.freshOf ∙ ap (carried EucKr) q)
+  euckr-leaves o q = first-leaves t z bits b bs short e 2 (EucKr euckr.freshOf) (carried EucKr o) (omega arith) (λ (d : Place). refl) (run-euckr (ownOf t 2) (pos 0) (b ∷ bs) euckr.freshOf ∙ ap (carried EucKr) q)
 
   big5-leaves : (o : Outcome Big5Record) → run (big5.stepOf (toBig5 t)) (live big5.freshOf (pos 0)) (b ∷ bs) ≡ o → Leaves t bits 3 (b ∷ bs) (placeAs (Big5 big5.freshOf) (carried Big5 o))
   unfolding slate.startOf
-  big5-leaves o q = first-leaves t z bits b bs short e 3 (Big5 big5.freshOf) (carried Big5 o) (omega arith) (λ (d : Place). refl) (run-big5 t (pos 0) (b ∷ bs) big5.freshOf ∙ ap (carried Big5) q)
+  big5-leaves o q = first-leaves t z bits b bs short e 3 (Big5 big5.freshOf) (carried Big5 o) (omega arith) (λ (d : Place). refl) (run-big5 (ownOf t 3) (pos 0) (b ∷ bs) big5.freshOf ∙ ap (carried Big5) q)
 
 -- ---- words of Hangul
 word-length : (index : List ℕ) (n : ℕ) (xs : List ℕ) → Word index n xs → length xs ≡ 2 * n
@@ -177,7 +178,7 @@ scale-without w h =
 
 module _ (t : Tables) (z : Sized t) (bits : ℕ) where
   same-lent : toEucKr (withoutLong t) ≡ euckr-edges.shortWords (toEucKr t)
-  same-lent = ap (euckr.lent (t .euckr) (t .extras)) (scale-without (t .weights) (rw (lengths-of t z .weights-length) (omega arith)))
+  same-lent = ap (euckr.lent (t .euckr) (t .extras)) (scale-without (t .weights) (rw (own-sized t z 2 (omega arith) .1 .1) (omega arith)))
 
   adds-at : (b : ℕ) (bs : List ℕ) (k : ℤ) → length (b ∷ bs) ≤ limit → isTrigger b ≡ true → Lives (run (euckr.stepOf (euckr-edges.shortWords (toEucKr t))) (live euckr.freshOf (pos 0)) (b ∷ bs)) → run (euckr.stepOf (toEucKr t)) (live euckr.freshOf (pos 0)) (b ∷ bs) ≡ plus k (run (euckr.stepOf (euckr-edges.shortWords (toEucKr t))) (live euckr.freshOf (pos 0)) (b ∷ bs)) → Adds t bits (b ∷ bs) k
   unfolding placeAs carried plus

@@ -30,7 +30,7 @@ use Rattle.kinds.specs.Kinds.{kindOf, freshIn, stepOf, closeOf, WeighedIn}
 use Rattle.kinds.specs.KindsLaws.{utf-8-still, iso2022jp-still}
 use Rattle.kinds.specs.Sound.{takesSpace, reachOf, SoundFor, soundB}
 use Rattle.kinds.specs.SoundLaws.{sound-true, true-sound, sound-more, fresh-sound, run-sound, close-sound}
-use Rattle.tables.specs.Tables.{Singles, Tables}
+use Rattle.tables.specs.Own.{Own}
 use Rattle.kinds.specs.declared.machine.Machine.{Machine}
 use Rattle.kinds.specs.declared.machine.Machine.the-variants.{Utf8, Iso2022Jp, EucKr, Big5, Caseless, Logical, Visual, ArabicFrench}
 use Rattle.places.specs.Order.{ScoredFor, ZeroOrNone, FedOr, PlaceFor, SlateFor, scoredB, zeroOrNoneB, unfedB, placeB, slateB}
@@ -182,11 +182,11 @@ small-more c d (none x) h q = tt
 small-more c d (live m g) h q = omega (arith, q)
 
 -- what the code knows of a machine's own run over a part, from the score 0
-pub record Ran (t : Tables) (xs : List ℕ) (m : Machine) : Type 0 where
+pub record Ran (t : Own) (xs : List ℕ) (m : Machine) : Type 0 where
   pub small : SmallOut (perByte * length xs) (run (stepOf t) (live m (pos 0)) xs)
   pub weighed : Holds (λ (x : Machine). WeighedIn m (t .weights)) (run (stepOf t) (live m (pos 0)) xs)
 
-module _ (t : Tables) (xs : List ℕ) (m : Machine) (ran : Ran t xs m) where
+module _ (t : Own) (xs : List ℕ) (m : Machine) (ran : Ran t xs m) where
   sound-at : (n : ℕ) (o : Outcome Machine) → o ≡ run (stepOf t) (live m (pos 0)) xs → Holds (λ (x : Machine). WeighedIn m (t .weights)) o → SoundFor n n m → Holds (SoundFor (n + length xs) (n + length xs)) o
   sound-at n (none d) e w h = tt
   sound-at n (live x g) e w h = rw (sym e) at (run-sound t n xs m w h)
@@ -209,14 +209,14 @@ unfolding carried
 ends-small P wrap (none d) h = tt
 ends-small P wrap (live m g) h = rw (h .1) (omega arith)
 
-module _ (s : Singles) (w : List ℤ) where
+module _ (t : Own) where
   -- by what it changes the score at most: by nothing, or by what a byte adds where the closing space is counted
   pub record Room (n : ℕ) (m : Machine) : Type 0 where
     pub more : ℕ
-    pub small : SmallOut (perByte * more) (closeOf s w m)
+    pub small : SmallOut (perByte * more) (closeOf t m)
     pub within : n + more ≤ reachOf m n true
 
-  room : (n : ℕ) (m : Machine) → SoundFor n n m → SmallOut perByte (closeOf s w m) → Room n m
+  room : (n : ℕ) (m : Machine) → SoundFor n n m → SmallOut perByte (closeOf t m) → Room n m
   unfolding closeOf reachOf
   room n (Utf8 m) o q = record { more = 0; small = ends-small utf-8.Sound Utf8 (utf-8.closeOf m) (utf-8-still m o); within = omega arith }
   room n (Iso2022Jp m) o q = record { more = 0; small = ends-small iso2022jp.Sound Iso2022Jp (iso2022jp.closeOf m) (iso2022jp-still m o); within = omega arith }
@@ -227,11 +227,11 @@ module _ (s : Singles) (w : List ℤ) where
   room n (Visual m) o q = record { more = 1; small = q; within = omega arith }
   room n (ArabicFrench m) o q = record { more = 1; small = q; within = omega arith }
 
-  reach-sum : (n : ℕ) (m : Machine) (z : ℤ) → natAbs z ≤ perByte * n → (r : Room n m) → SmallOut (perByte * reachOf m n true) (plus z (closeOf s w m))
+  reach-sum : (n : ℕ) (m : Machine) (z : ℤ) → natAbs z ≤ perByte * n → (r : Room n m) → SmallOut (perByte * reachOf m n true) (plus z (closeOf t m))
   reach-sum n m z h r =
       let d = r .more in
       let e : perByte * (n + d) ≤ perByte * reachOf m n true = mul-le-mul-left perByte (r .within) in
-      small-more (perByte * n + perByte * d) (perByte * reachOf m n true) (plus z (closeOf s w m)) (omega arith) (plus-small (perByte * n) (perByte * d) z (closeOf s w m) h (r .small))
+      small-more (perByte * n + perByte * d) (perByte * reachOf m n true) (plus z (closeOf t m)) (omega arith) (plus-small (perByte * n) (perByte * d) z (closeOf t m) h (r .small))
 
   -- a place without a score is passed over
   pub end-passed : (n k : ℕ) (p : Place) → PlaceFor n false true k p → PlaceFor n true true k p
@@ -243,15 +243,15 @@ module _ (s : Singles) (w : List ℤ) where
         fed-or = tt;
       }
 
-  end-at : (n k : ℕ) (p : Place) → PlaceFor n false true k p → SmallOut perByte (closeOf s w (p .machine)) → (c : Score) → p .score ≡ c → PlaceFor n true true k (endFrom s w p c)
+  end-at : (n k : ℕ) (p : Place) → PlaceFor n false true k p → SmallOut perByte (closeOf t (p .machine)) → (c : Score) → p .score ≡ c → PlaceFor n true true k (endFrom t p c)
   unfolding endFrom
   end-at n k p o q None e = end-passed n k p o
   end-at n k p o q (Live z) e =
       let m = p .machine in
-      let c = closeOf s w (p .machine) in
+      let c = closeOf t (p .machine) in
       let sound : SoundFor n n (p .machine) = rw (reach-open (p .machine) n) at (o .sound) in
       let h : natAbs z ≤ perByte * n = rw (reach-open (p .machine) n, e) at (o .scored) in
-      placed n k true (p .machine) (o .kind) (plus z (closeOf s w (p .machine))) (plus-holds (Alike m) z c (close-alike s w m)) (plus-holds (SoundFor n (reachOf m n true)) z c (close-sound s w n (p .machine) sound)) (reach-sum n (p .machine) z h (room n (p .machine) sound q))
+      placed n k true (p .machine) (o .kind) (plus z (closeOf t (p .machine))) (plus-holds (Alike m) z c (close-alike t m)) (plus-holds (SoundFor n (reachOf m n true)) z c (close-sound t n (p .machine) sound)) (reach-sum n (p .machine) z h (room n (p .machine) sound q))
 
-  pub end-for : (n k : ℕ) (p : Place) → SmallOut perByte (closeOf s w (p .machine)) → PlaceFor n false true k p → PlaceFor n true true k (endOf s w p)
+  pub end-for : (n k : ℕ) (p : Place) → SmallOut perByte (closeOf t (p .machine)) → PlaceFor n false true k p → PlaceFor n true true k (endOf t p)
   end-for n k p q o = end-at n k p o q (p .score) refl

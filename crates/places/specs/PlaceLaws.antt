@@ -1,5 +1,5 @@
 -- Each way through feeding a place, and that it stays in order. Assumes nothing.
-use mathlib.Core.Path.{_≡_, refl, sym, ap, _∙_}
+use mathlib.Core.Path.{_≡_, refl, sym, ap, subst, _∙_}
 use mathlib.Core.Bool.{Bool, true, false, cond}
 use mathlib.Core.List.{List, []}
 use Prim.Native.Nat.{ℕ, _+_, _*_, _^_, _<_, _≤_}
@@ -13,12 +13,12 @@ use Rattle.laws.specs.Run.{Outcome, none, live, plus, run, ended}
 use Rattle.laws.specs.Sizes.{abs-add}
 use Rattle.laws.specs.Still.{from-zero}
 use Rattle.weights.specs.Weights.{perByte}
-use Rattle.kinds.specs.KindLaws.{Alike, reach-open, run-alike}
+use Rattle.kinds.specs.KindLaws.{Alike, fresh-alike, alike-kind, reach-open, run-alike}
 use Rattle.kinds.specs.Kinds.{kindOf, freshIn, stepOf, closeOf, ranAs, ranOf, closedOf, Small, WeighedIn, Weighed}
 use Rattle.kinds.specs.KindsLaws.{ran-fit, closed-fit}
 use Rattle.kinds.specs.Sound.{reachOf, SoundFor}
 use Rattle.kinds.specs.SoundLaws.{sound-more, fresh-sound}
-use Rattle.tables.specs.Tables.{Singles, Tables, Sized}
+use Rattle.tables.specs.Own.{Own, SizedAt}
 use Rattle.kinds.specs.declared.machine.Machine.{Machine}
 use Rattle.kinds.specs.declared.machine.Ran.{Ran as MachineRan}
 use Rattle.kinds.specs.declared.machine.Ran.the-variants as ran
@@ -38,7 +38,7 @@ settled-as p s (none d) = refl
 settled-as p s (live m g) = refl
 
 -- ---- the ways through
-module _ (t : Tables) (xs : List ℕ) (p : Place) where
+module _ (t : Own) (xs : List ℕ) (p : Place) where
   pub feed-none : (last : Bool) → p .score ≡ None → p ≡ feedOf t last xs p
   unfolding fedFrom
   feed-none last e = rw e
@@ -49,30 +49,30 @@ module _ (t : Tables) (xs : List ℕ) (p : Place) where
     feed-open = rw e
 
     -- closing what is settled is closing the outcome, since a machine stays of its kind
-    end-of : (o : Outcome Machine) → Holds (Alike (p .machine)) o → endOf (t .singles) (t .weights) (placeAs (p .machine) o) ≡ placeAs (p .machine) (ended (closeOf (t .singles) (t .weights)) o)
+    end-of : (o : Outcome Machine) → Holds (Alike (p .machine)) o → endOf t (placeAs (p .machine) o) ≡ placeAs (p .machine) (ended (closeOf t) o)
     unfolding placeAs endFrom ended
     end-of (none d) a = refl
-    end-of (live n g) a = same (plus g (closeOf (t .singles) (t .weights) n))
+    end-of (live n g) a = same (plus g (closeOf t n))
       where
         same : (o : Outcome Machine) → placeAs n o ≡ placeAs (p .machine) o
         same (none d) = ap (λ (m : Machine). place m None) a
         same (live m k) = refl
 
-    pub feed-last : endOf (t .singles) (t .weights) (placeAs (p .machine) (run (stepOf t) (live (p .machine) s) xs)) ≡ feedOf t true xs p
+    pub feed-last : endOf t (placeAs (p .machine) (run (stepOf t) (live (p .machine) s) xs)) ≡ feedOf t true xs p
     unfolding fedFrom
     feed-last = rw e (end-of (run (stepOf t) (live (p .machine) s) xs) (run-alike t (p .machine) s xs))
 
-module _ (s : Singles) (w : List ℤ) (p : Place) where
-  pub end-none : p .score ≡ None → p ≡ endOf s w p
+module _ (t : Own) (p : Place) where
+  pub end-none : p .score ≡ None → p ≡ endOf t p
   unfolding endFrom
   end-none e = rw e
 
-  pub end-live : (z : ℤ) → p .score ≡ Live z → placeAs (p .machine) (plus z (closeOf s w (p .machine))) ≡ endOf s w p
+  pub end-live : (z : ℤ) → p .score ≡ Live z → placeAs (p .machine) (plus z (closeOf t (p .machine))) ≡ endOf t p
   unfolding endFrom
   end-live z e = rw e
 
 -- an empty part that is not the last one leaves a place as it is
-pub feed-nil : (t : Tables) (p : Place) → feedOf t false [] p ≡ p
+pub feed-nil : (t : Own) (p : Place) → feedOf t false [] p ≡ p
 unfolding placeAs run
 feed-nil t p = at (p .score) refl
   where
@@ -100,27 +100,31 @@ unfolding ranAs
 weighed-out m w (none d) h = tt
 weighed-out m w (live n g) h = h
 
-module _ (t : Tables) (xs : List ℕ) (m : Machine) where
+module _ (t : Own) (xs : List ℕ) (m : Machine) where
   pub ran-is : (r : MachineRan) → r ≡ ranAs (run (stepOf t) (live m (pos 0)) xs) → Small (perByte * length xs) r → Weighed m (t .weights) r → Ran t xs m
   ran-is r e s w =
       let o = run (stepOf t) (live m (pos 0)) xs in
       record { small = small-out (perByte * length xs) o (rw e at s); weighed = weighed-out m (t .weights) o (rw e at w) }
 
 -- ---- a part, after which the place is fit for its end
-module _ (t : Tables) (sized : Sized t) (xs : List ℕ) (short : length xs ≤ limit) (p : Place) (s : ℤ) (ran : Ran t xs (p .machine)) (sound : SoundFor limit limit (p .machine)) (small : natAbs s ≤ perByte * limit) where
-  fit-at : (o : Outcome Machine) → Holds (SoundFor (limit + length xs) (limit + length xs)) o → SmallOut (perByte * length xs) o → FitEnd (t .singles) (t .weights) (placeAs (p .machine) (plus s o))
-  unfolding placeAs plus
-  fit-at (none d) h q = record { closes = closed-fit t sized (freshIn (p .machine)) (fresh-sound (2 * limit) (2 * limit) (p .machine)); small = tt }
-  fit-at (live m g) h q =
-      let e : perByte * length xs ≤ perByte * limit = mul-le-mul-left perByte short in
-      record { closes = closed-fit t sized m (sound-more (limit + length xs) (2 * limit) (limit + length xs) (2 * limit) m (omega arith) (omega arith) h); small = omega (arith, abs-add s g) }
+module _ (t : Own) (xs : List ℕ) (short : length xs ≤ limit) (p : Place) (sized : SizedAt (kindOf (p .machine)) t) (s : ℤ) (ran : Ran t xs (p .machine)) (sound : SoundFor limit limit (p .machine)) (small : natAbs s ≤ perByte * limit) where
+  -- a machine of its kind asks the same lengths
+  alike-sized : (m : Machine) → Alike (p .machine) m → SizedAt (kindOf m) t
+  alike-sized m a = subst (λ (k : ℕ). SizedAt k t) (sym (alike-kind (p .machine) m a)) sized
 
-  pub fit-end : FitEnd (t .singles) (t .weights) (placeAs (p .machine) (run (stepOf t) (live (p .machine) s) xs))
+  fit-at : (o : Outcome Machine) → Holds (Alike (p .machine)) o → Holds (SoundFor (limit + length xs) (limit + length xs)) o → SmallOut (perByte * length xs) o → FitEnd t (placeAs (p .machine) (plus s o))
+  unfolding placeAs plus
+  fit-at (none d) a h q = record { closes = closed-fit t (freshIn (p .machine)) (alike-sized (freshIn (p .machine)) (fresh-alike (p .machine))) (fresh-sound (2 * limit) (2 * limit) (p .machine)); small = tt }
+  fit-at (live m g) a h q =
+      let e : perByte * length xs ≤ perByte * limit = mul-le-mul-left perByte short in
+      record { closes = closed-fit t m (alike-sized m a) (sound-more (limit + length xs) (2 * limit) (limit + length xs) (2 * limit) m (omega arith) (omega arith) h); small = omega (arith, abs-add s g) }
+
+  pub fit-end : FitEnd t (placeAs (p .machine) (run (stepOf t) (live (p .machine) s) xs))
   fit-end =
-      rw (from-zero (stepOf t) (p .machine) s xs) (fit-at (run (stepOf t) (live (p .machine) (pos 0)) xs) (ran-sound t xs (p .machine) ran limit sound) (ran .small))
+      rw (from-zero (stepOf t) (p .machine) s xs) (fit-at (run (stepOf t) (live (p .machine) (pos 0)) xs) (run-alike t (p .machine) (pos 0) xs) (ran-sound t xs (p .machine) ran limit sound) (ran .small))
 
 -- ---- it stays in order
-module _ (t : Tables) (xs : List ℕ) (p : Place) where
+module _ (t : Own) (xs : List ℕ) (p : Place) where
   none-for : (last : Bool) (n k : ℕ) → p .score ≡ None → PlaceFor n false true k p → PlaceFor (n + length xs) last true k p
   none-for last n k e o =
       let m = p .machine in
@@ -146,27 +150,27 @@ module _ (t : Tables) (xs : List ℕ) (p : Place) where
     pub kept-open : Kept t false xs p
     kept-open = record { kept = λ (n k : ℕ) h o. rw (sym (feed-open t xs p s e)) (fed-on n k o) }
 
-    pub kept-last : Ended (t .singles) (t .weights) (placeAs (p .machine) (run (stepOf t) (live (p .machine) s) xs)) → Kept t true xs p
+    pub kept-last : Ended t (placeAs (p .machine) (run (stepOf t) (live (p .machine) s) xs)) → Kept t true xs p
     kept-last f = record { kept = λ (n k : ℕ) h o. rw (sym (feed-last t xs p s e)) (f .kept (n + length xs) k (fed-on n k o)) }
 
 -- ---- the ways through the code
-module _ (s : Singles) (w : List ℤ) (p : Place) where
-  pub ended-none : p .score ≡ None → Ended s w p
-  ended-none e = record { kept = λ (n k : ℕ) o. rw (sym (end-none s w p e)) (end-passed s w n k p o) }
+module _ (t : Own) (p : Place) where
+  pub ended-none : p .score ≡ None → Ended t p
+  ended-none e = record { kept = λ (n k : ℕ) o. rw (sym (end-none t p e)) (end-passed t n k p o) }
 
   -- a live place, closed by an answer r and settled as q
-  pub end-way : (z : ℤ) (r : MachineRan) (q : Place) → p .score ≡ Live z → r ≡ closedOf s w (p .machine) → Closes s w (p .machine) → Small perByte r → q ≡ settledOf p z r → (q ≡ endOf s w p) × Ended s w p
+  pub end-way : (z : ℤ) (r : MachineRan) (q : Place) → p .score ≡ Live z → r ≡ closedOf t (p .machine) → Closes t (p .machine) → Small perByte r → q ≡ settledOf p z r → (q ≡ endOf t p) × Ended t p
   end-way z r q e a b h i =
-      let o = closeOf s w (p .machine) in
-      let f : r ≡ ranAs (closeOf s w (p .machine)) = a ∙ b in
-      (i ∙ (ap (settledOf p z) f ∙ (settled-as p z o ∙ end-live s w p z e)), record { kept = λ (n k : ℕ) x. end-for s w n k p (small-out perByte o (rw f at h)) x })
+      let o = closeOf t (p .machine) in
+      let f : r ≡ ranAs (closeOf t (p .machine)) = a ∙ b in
+      (i ∙ (ap (settledOf p z) f ∙ (settled-as p z o ∙ end-live t p z e)), record { kept = λ (n k : ℕ) x. end-for t n k p (small-out perByte o (rw f at h)) x })
 
 -- a live place that an answer r fed, settled as q
-pub record Fed (t : Tables) (xs : List ℕ) (p : Place) (z : ℤ) (q : Place) : Type 0 where
+pub record Fed (t : Own) (xs : List ℕ) (p : Place) (z : ℤ) (q : Place) : Type 0 where
   pub is : q ≡ placeAs (p .machine) (run (stepOf t) (live (p .machine) z) xs)
   pub ran : Ran t xs (p .machine)
 
-module _ (t : Tables) (xs : List ℕ) (p : Place) (fit : FitPart t p (length xs)) (z : ℤ) (e : p .score ≡ Live z) where
+module _ (t : Own) (xs : List ℕ) (p : Place) (fit : FitPart t p (length xs)) (z : ℤ) (e : p .score ≡ Live z) where
   pub small-before : natAbs z ≤ perByte * limit
   small-before = rw e at (fit .small)
 
@@ -178,16 +182,16 @@ module _ (t : Tables) (xs : List ℕ) (p : Place) (fit : FitPart t p (length xs)
   pub fed-way : (r : MachineRan) (q : Place) → r ≡ ranOf t (p .machine) xs → Small (perByte * length xs) r → Weighed (p .machine) (t .weights) r → q ≡ settledOf p z r → Fed t xs p z q
   fed-way r q a h v i =
       let m = p .machine in
-      let f : r ≡ ranAs (run (stepOf t) (live (p .machine) (pos 0)) xs) = a ∙ ran-fit t (fit .sized) xs (fit .short) (p .machine) (fit .sound) in
+      let f : r ≡ ranAs (run (stepOf t) (live (p .machine) (pos 0)) xs) = a ∙ ran-fit t xs (fit .short) (p .machine) (fit .sized) (fit .sound) in
       record { is = i ∙ (ap (settledOf p z) f ∙ (settled-as p z (run (stepOf t) (live (p .machine) (pos 0)) xs) ∙ ap (placeAs m) (sym (from-zero (stepOf t) m z xs)))); ran = ran-is t xs m r f h v }
 
   module _ (q : Place) (fed : Fed t xs p z q) where
-    pub last-fit : FitEnd (t .singles) (t .weights) q
-    last-fit = rw (fed .is) (fit-end t (fit .sized) xs (fit .short) p z (fed .ran) (fit .sound) small-before)
+    pub last-fit : FitEnd t q
+    last-fit = rw (fed .is) (fit-end t xs (fit .short) p (fit .sized) z (fed .ran) (fit .sound) small-before)
 
     pub open-way : (last : Bool) → last ≡ false → (q ≡ feedOf t last xs p) × Kept t last xs p
     open-way last l = rw l (fed .is ∙ feed-open t xs p z e, kept-open t xs p z e (fed .ran))
 
-    pub last-way : (last : Bool) (x : Place) → last ≡ true → x ≡ endOf (t .singles) (t .weights) q → Ended (t .singles) (t .weights) q → (x ≡ feedOf t last xs p) × Kept t last xs p
+    pub last-way : (last : Bool) (x : Place) → last ≡ true → x ≡ endOf t q → Ended t q → (x ≡ feedOf t last xs p) × Kept t last xs p
     last-way last x l i f =
-        rw l (i ∙ (ap (endOf (t .singles) (t .weights)) (fed .is) ∙ feed-last t xs p z e), kept-last t xs p z e (fed .ran) (rw (fed .is) at f))
+        rw l (i ∙ (ap (endOf t) (fed .is) ∙ feed-last t xs p z e), kept-last t xs p z e (fed .ran) (rw (fed .is) at f))

@@ -1,7 +1,7 @@
 -- All eight places: what a start gives, and what a part of a chunk makes of them. Assumes nothing.
 use mathlib.Core.Bool.{Bool, true, false, cond, _&&_}
-use mathlib.Core.List.{List, [], _∷_, map}
-use Prim.Native.Nat.{ℕ, _/_, _%_}
+use mathlib.Core.List.{List, [], _∷_}
+use Prim.Native.Nat.{ℕ, suc, _/_, _%_}
 use lib.Dec.{eqb, leb}
 use lib.IntN.{pos}
 use lib.ListN.{length}
@@ -14,6 +14,7 @@ use Rattle.caseless.specs.Caseless as caseless
 use Rattle.logical.specs.Logical as logical
 use Rattle.visual.specs.Visual as visual
 use Rattle.utf8.specs.Utf8 as utf-8
+use Rattle.tables.specs.Own.{ownOf}
 use Rattle.tables.specs.Tables.{Tables, sizedB}
 use Rattle.kinds.specs.declared.machine.Machine.{Machine}
 use Rattle.kinds.specs.declared.machine.Machine.the-variants.{Utf8, Iso2022Jp, EucKr, Big5, Caseless, Logical, Visual, ArabicFrench}
@@ -35,8 +36,13 @@ startOf bits =
     place (Utf8 utf-8.fresh) (takenOf bits 1) ∷ place (Iso2022Jp iso2022jp.fresh) (takenOf bits 2) ∷ place (EucKr euckr.freshOf) (takenOf bits 4) ∷ place (Big5 big5.freshOf) (takenOf bits 8) ∷ place (Caseless caseless.freshOf) (takenOf bits 16) ∷ place (Logical logical.freshOf) (takenOf bits 32) ∷ place (Visual visual.freshOf) (takenOf bits 64) ∷ place (ArabicFrench arabicFrench.freshOf) (takenOf bits 128) ∷ []
 
 -- ---- a part of a chunk
+-- each place over its own tables, the first one's number being k
+unfoldable pub feedFrom : Tables → Bool → List ℕ → ℕ → List Place → List Place
+feedFrom t last xs k [] = []
+feedFrom t last xs k (p ∷ ps) = feedOf (ownOf t k) last xs p ∷ feedFrom t last xs (suc k) ps
+
 abbrev pub feedAll : Tables → Bool → List ℕ → List Place → List Place
-feedAll t last xs ps = map (feedOf t last xs) ps
+feedAll t last xs ps = feedFrom t last xs 0 ps
 
 -- the part is no longer than a stream, each place is one that such a stream can have led to, the lent lengths are exact
 unfoldable pub fitB : Tables → List ℕ → List Place → Bool

@@ -1,16 +1,17 @@
 -- Laws of the slate, for its code and its callers. Assumes nothing.
-use mathlib.Core.Path.{_≡_, refl, sym, ap, _∙_}
-use mathlib.Core.Bool.{Bool, true, false, cond, _&&_}
-use mathlib.Core.List.{List, [], _∷_, map}
+use mathlib.Core.Path.{_≡_, refl, sym, ap, subst, _∙_}
+use mathlib.Core.Bool.{Bool, true, false, cond, _&&_, and-false}
+use mathlib.Core.List.{List, [], _∷_}
 use Prim.Native.Nat.{ℕ, zero, suc, _+_, _*_, _/_, _%_, _≤_, _<_}
-use native.Mathlib.Nat.{not-suc-le-zero, zero-add, add-zero}
+use native.Mathlib.Nat.{le-of-suc-le-suc, not-suc-le-zero, zero-add, add-zero}
 use native.Mathlib.Numerals.{add-one}
 use native.Mathlib.Omega.{arith}
 use lib.Dec.{eqb, leb}
 use lib.IntN.{pos}
-use lib.ListN.{length, getD, set}
-use borrow.Author.Tests.{leb-true, le-leb, eqb-true, eqb-false}
-use Rattle.laws.specs.Each.{changed, changed-none, changed-at, changed-next, changed-all, EachFrom, each-weaken, each-get}
+use lib.ListN.{length, getD, drop}
+use lib.Seq.{drop-cons, drop-length}
+use borrow.Author.Tests.{le-leb, lt-leb}
+use Rattle.laws.specs.Each.{EachFrom, each-weaken, each-get}
 use Rattle.laws.specs.Limit.{limit}
 use Rattle.laws.specs.Tests.{both, either}
 use Rattle.weights.specs.Weights.{perByte}
@@ -26,6 +27,8 @@ use Rattle.kinds.specs.Kinds.{kindOf, freshIn}
 use Rattle.kinds.specs.KindLaws.{reach-open}
 use Rattle.kinds.specs.Sound.{reachOf, SoundFor}
 use Rattle.kinds.specs.SoundLaws.{sound-more, fresh-sound}
+use Rattle.tables.specs.Own.{Own, ownOf, SizedAt}
+use Rattle.tables.specs.OwnLaws.{own-sized}
 use Rattle.tables.specs.Tables.{Tables, Sized, sizedB}
 use Rattle.tables.specs.TablesLaws.{sized-true, true-sized}
 use Rattle.kinds.specs.declared.machine.Machine.{Machine}
@@ -36,7 +39,7 @@ use Rattle.places.specs.OrderLaws.{slate-true, true-slate, scored-more}
 use Rattle.places.specs.Place.{place, feedOf}
 use Rattle.places.specs.Steps.{SmallScore, FitPart}
 use Rattle.places.specs.PlaceLaws.{feed-nil}
-use Rattle.places.specs.Slate.{takenOf, startOf, feedAll, fitB, slated, slatedOf}
+use Rattle.places.specs.Slate.{takenOf, startOf, feedFrom, feedAll, fitB, slated, slatedOf}
 use Rattle.places.specs.declared.place.Place.{Place}
 use Rattle.places.specs.declared.place.Score.{Score}
 use Rattle.places.specs.declared.place.Score.the-variants.{None, Live}
@@ -108,28 +111,34 @@ module _ (t : Tables) (xs : List ℕ) (ps : List Place) where
     pub slate : SlateFor limit false true ps
     pub sized : Sized t
 
-  pub fit-true : fitB t xs ps ≡ true → Fit
-  unfolding fitB
-  fit-true e =
-      let a = both _ _ e in
-      let b = both _ _ (a .1) in
-      record { short = leb-true _ _ (a .0); slate = slate-true limit false true ps (b .0); sized = sized-true t (b .1) }
+  pub fit-parts : length xs ≤ limit → slateB limit false true ps ≡ true → sizedB t ≡ true → Fit
+  fit-parts h o z = record { short = h; slate = slate-true limit false true ps o; sized = sized-true t z }
 
-  true-fit : Fit → fitB t xs ps ≡ true
-  unfolding fitB
-  true-fit f = rw (le-leb _ _ (f .short), true-slate limit false true ps (f .slate), true-sized t (f .sized))
+  -- each way through the code
+  module _ (last : Bool) where
+    pub slated-long : limit < length xs → slated false ps ≡ slatedOf t last xs ps
+    unfolding slatedOf fitB
+    slated-long h = rw (lt-leb (length xs) limit h)
 
-  pub slated-at : (last x : Bool) → fitB t xs ps ≡ x → cond x (slated true (feedAll t last xs ps)) (slated false ps) ≡ slatedOf t last xs ps
-  unfolding slatedOf
-  slated-at last x e = rw e
+    pub slated-order : slateB limit false true ps ≡ false → slated false ps ≡ slatedOf t last xs ps
+    unfolding slatedOf fitB
+    slated-order e = rw (e, and-false)
+
+    pub slated-length : sizedB t ≡ false → slated false ps ≡ slatedOf t last xs ps
+    unfolding slatedOf fitB
+    slated-length e = rw (e, and-false, and-false)
+
+    pub slated-fed : Fit → slated true (feedAll t last xs ps) ≡ slatedOf t last xs ps
+    unfolding slatedOf fitB
+    slated-fed f = rw (le-leb _ _ (f .short), true-slate limit false true ps (f .slate), true-sized t (f .sized))
 
   -- what a caller that has tested uses
   pub slated-fit : (last fed : Bool) (n : ℕ) → Sized t → length xs ≤ limit → SlateFor n false fed ps → slatedOf t last xs ps ≡ slated true (feedAll t last xs ps)
-  slated-fit last fed n z h o =
-      sym (slated-at last true (true-fit (record { short = h; slate = slate-more n limit fed ps (o .most) (omega arith) o; sized = z })))
+  slated-fit last fed n z h o = sym (slated-fed last (record { short = h; slate = slate-more n limit fed ps (o .most) (omega arith) o; sized = z }))
 
 -- ---- the places after a part are in order
-each-fed : (t : Tables) (last : Bool) (xs : List ℕ) (n : ℕ) → n + length xs ≤ limit → (k : ℕ) (ps : List Place) → EachFrom (λ (j : ℕ) (p : Place). Kept t last xs p) k ps → EachFrom (PlaceFor n false true) k ps → EachFrom (PlaceFor (n + length xs) last true) k (feedAll t last xs ps)
+each-fed : (t : Tables) (last : Bool) (xs : List ℕ) (n : ℕ) → n + length xs ≤ limit → (k : ℕ) (ps : List Place) → EachFrom (λ (j : ℕ) (p : Place). Kept (ownOf t j) last xs p) k ps → EachFrom (PlaceFor n false true) k ps → EachFrom (PlaceFor (n + length xs) last true) k (feedFrom t last xs k ps)
+unfolding feedFrom
 each-fed t last xs n h k [] f o = tt
 each-fed t last xs n h k (p ∷ ps) f o = (f .0 .kept n k h (o .0), each-fed t last xs n h (suc k) ps (f .1) (o .1))
 
@@ -141,72 +150,58 @@ fed-slate t last fed xs n ps h f o =
 pub fed-kept : (t : Tables) (last : Bool) (xs : List ℕ) (ps qs : List Place) (r : Slated) → r ≡ slated true qs → KeptIf (r .fit) t last xs ps → AllKept t last xs ps
 fed-kept t last xs ps qs r e h = rw e at h
 
-nil-kept-at : (t : Tables) (p : Place) → Kept t false [] p
+nil-kept-at : (t : Own) (p : Place) → Kept t false [] p
 nil-kept-at t p = record { kept = λ (n k : ℕ) h o. rw (feed-nil t p, add-zero) o }
 
-pub nil-kept : (t : Tables) (k : ℕ) (ps : List Place) → EachFrom (λ (j : ℕ) (p : Place). Kept t false [] p) k ps
+pub nil-kept : (t : Tables) (k : ℕ) (ps : List Place) → EachFrom (λ (j : ℕ) (p : Place). Kept (ownOf t j) false [] p) k ps
 nil-kept t k [] = tt
-nil-kept t k (p ∷ ps) = (nil-kept-at t p, nil-kept t (suc k) ps)
+nil-kept t k (p ∷ ps) = (nil-kept-at (ownOf t k) p, nil-kept t (suc k) ps)
 
 -- an empty part that is not the last one leaves all as it is
-pub feed-all-nil : (t : Tables) (ps : List Place) → feedAll t false [] ps ≡ ps
-feed-all-nil t [] = refl
-feed-all-nil t (p ∷ ps) = ap (λ (x : Place). x ∷ feedAll t false [] ps) (feed-nil t p) ∙ ap (λ (l : List Place). p ∷ l) (feed-all-nil t ps)
+feed-from-nil : (t : Tables) (k : ℕ) (ps : List Place) → feedFrom t false [] k ps ≡ ps
+unfolding feedFrom
+feed-from-nil t k [] = refl
+feed-from-nil t k (p ∷ ps) = rw (feed-nil (ownOf t k) p, feed-from-nil t (suc k) ps)
 
--- ---- for the loop
+pub feed-all-nil : (t : Tables) (ps : List Place) → feedAll t false [] ps ≡ ps
+feed-all-nil t ps = feed-from-nil t 0 ps
+
+-- what a part makes of place k: what it makes of it alone, over its own tables
+feed-from-at : (t : Tables) (last : Bool) (xs : List ℕ) (k : ℕ) (ps : List Place) (d : Place) (i : ℕ) → i < length ps → getD (feedFrom t last xs k ps) i d ≡ feedOf (ownOf t (k + i)) last xs (getD ps i d)
+unfolding feedFrom
+feed-from-at t last xs k [] d i h = absurd (not-suc-le-zero h)
+feed-from-at t last xs k (p ∷ ps) d zero h = rw add-zero
+feed-from-at t last xs k (p ∷ ps) d (suc i) h =
+    let q : suc k + i ≡ k + suc i = omega arith in
+    subst (λ (j : ℕ). getD (feedFrom t last xs (suc k) ps) i d ≡ feedOf (ownOf t j) last xs (getD ps i d)) q (feed-from-at t last xs (suc k) ps d i (le-of-suc-le-suc h))
+
+pub feed-at : (t : Tables) (last : Bool) (xs : List ℕ) (ps : List Place) (d : Place) (k : ℕ) → k < length ps → getD (feedAll t last xs ps) k d ≡ feedOf (ownOf t k) last xs (getD ps k d)
+feed-at t last xs ps d k h = subst (λ (i : ℕ). getD (feedAll t last xs ps) k d ≡ feedOf (ownOf t i) last xs (getD ps k d)) (zero-add k) (feed-from-at t last xs 0 ps d k h)
+
+-- ---- for the code
 score-small : (m : Machine) (c : Score) → ScoredFor limit m c → SmallScore (perByte * limit) c
 score-small m None q = tt
 score-small m (Live s) q = q
 
-fit-place : (t : Tables) (xs : List ℕ) (p : Place) (i : ℕ) → Sized t → length xs ≤ limit → PlaceFor limit false true i p → FitPart t p (length xs)
-fit-place t xs p i z h o =
-    let m = p .machine in
-    record { sized = z; sound = rw (reach-open m limit) at (o .sound); small = score-small m (p .score) (rw (reach-open m limit) at (o .scored)); short = h }
+-- a place in order and its own tables are fit for a part
+pub fit-place : (t : Tables) (xs : List ℕ) (ps : List Place) (k : ℕ) (d : Place) → Sized t → SlateFor limit false true ps → length xs ≤ limit → length ps ≡ 8 → k < 8 → FitPart (ownOf t k) (getD ps k d) (length xs)
+fit-place t xs ps k d z f h e l =
+    let m = getD ps k d .machine in
+    let o = subst (λ (i : ℕ). PlaceFor limit false true i (getD ps k d)) (zero-add k) (each-get (PlaceFor limit false true) 0 ps d (f .each) k (rw e l)) in
+    record { sized = subst (λ (i : ℕ). SizedAt i (ownOf t k)) (sym (o .kind)) (own-sized t z k l); sound = rw (reach-open m limit) at (o .sound); small = score-small m (getD ps k d .score) (rw (reach-open m limit) at (o .scored)); short = h }
 
--- within a list the default does not matter
-getD-any : (ps : List Place) (i : ℕ) (x y : Place) → i < length ps → getD ps i x ≡ getD ps i y
-getD-any [] i x y h = absurd (not-suc-le-zero h)
-getD-any (p ∷ ps) zero x y h = refl
-getD-any (p ∷ ps) (suc i) x y h = getD-any ps i x y (omega (arith, h))
+-- eight places, one by one
+pub joined : {p q : Place} {ps qs : List Place} → p ≡ q → ps ≡ qs → p ∷ ps ≡ q ∷ qs
+joined e f = cc
 
-kept-each : (P : Place → Type 0) (k : ℕ) (ps : List Place) → ((i : ℕ) (d : Place) → i < length ps → P (getD ps i d)) → EachFrom (λ (j : ℕ) (p : Place). P p) k ps
-kept-each P k [] f = tt
-kept-each P k (p ∷ ps) f = (f 0 p (omega arith), kept-each P (suc k) ps (λ (i : ℕ) (d : Place) h. f (suc i) d (omega (arith, h))))
+module _ (ps : List Place) (d : Place) where
+  abbrev pub listed : List Place
+  listed = getD ps 0 d ∷ getD ps 1 d ∷ getD ps 2 d ∷ getD ps 3 d ∷ getD ps 4 d ∷ getD ps 5 d ∷ getD ps 6 d ∷ getD ps 7 d ∷ []
 
-module _ (t : Tables) (last : Bool) (xs : List ℕ) (ps : List Place) where
-  -- the first i places were fed
-  pub record Feeding (i : ℕ) (out : List Place) : Type 0 where
-    pub within : i ≤ 8
-    pub eight : length ps ≡ 8
-    pub fed-so : out ≡ changed (feedOf t last xs) i ps
-    pub kept-so : (j : ℕ) (d : Place) → j < i → Kept t last xs (getD ps j d)
+  module _ (e : length ps ≡ 8) where
+    next : (k : ℕ) {qs : List Place} → k < 8 → drop (suc k) ps ≡ qs → drop k ps ≡ getD ps k d ∷ qs
+    next k h r = drop-cons ps k d (rw e h) ∙ ap (λ (l : List Place). getD ps k d ∷ l) r
 
-  pub feeding-start : length ps ≡ 8 → Feeding 0 ps
-  feeding-start e = record { within = omega arith; eight = e; fed-so = changed-none (feedOf t last xs) ps; kept-so = λ (j : ℕ) (d : Place) h. absurd (not-suc-le-zero h) }
-
-  module _ (i : ℕ) (out : List Place) (d : Place) (o : Feeding i out) (h : i < 8) where
-    at : getD out i d ≡ getD ps i d
-    at = ap (λ (l : List Place). getD l i d) (o .fed-so) ∙ changed-at (feedOf t last xs) i ps d
-
-    pub feeding-fit : Sized t → length xs ≤ limit → SlateFor limit false true ps → FitPart t (getD out i d) (length xs)
-    feeding-fit z l f = rw at (fit-place t xs (getD ps i d) i z l (rw zero-add at (each-get (PlaceFor limit false true) 0 ps d (f .each) i (rw (o .eight) h))))
-
-    kept-next : Kept t last xs (getD ps i d) → (j : ℕ) (x : Place) → j < i + 1 → Kept t last xs (getD ps j x)
-    kept-next k j x l = pick (eqb j i) refl
-      where
-        pick : (b : Bool) → eqb j i ≡ b → Kept t last xs (getD ps j x)
-        pick true e = rw (eqb-true j i e, getD-any ps i x d (rw (o .eight) h)) k
-        pick false e = o .kept-so j x (omega (arith, l, eqb-false j i e))
-
-    pub feeding-next : (q : Place) → q ≡ feedOf t last xs (getD out i d) → Kept t last xs (getD out i d) → Feeding (i + 1) (set out i q)
-    feeding-next q e k =
-        record {
-          within = omega arith;
-          eight = o .eight;
-          fed-so = rw (e, at, o .fed-so, add-one) (changed-next (feedOf t last xs) i ps d (rw (o .eight) h));
-          kept-so = kept-next (rw at at k);
-        }
-
-  pub feeding-done : (i : ℕ) (out : List Place) → Feeding i out → 8 ≤ i → (out ≡ feedAll t last xs ps) × AllKept t last xs ps
-  feeding-done i out o h =
-      (o .fed-so ∙ changed-all (feedOf t last xs) i ps (rw (o .eight) h), kept-each (Kept t last xs) 0 ps (λ (j : ℕ) (d : Place) l. o .kept-so j d (omega (arith, l, o .eight))))
+    pub eight : ps ≡ listed
+    eight =
+        next 0 (omega arith) (next 1 (omega arith) (next 2 (omega arith) (next 3 (omega arith) (next 4 (omega arith) (next 5 (omega arith) (next 6 (omega arith) (next 7 (omega arith) (rw e at (drop-length ps)))))))))

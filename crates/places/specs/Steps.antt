@@ -6,9 +6,9 @@ use lib.IntN.{ℤ, natAbs, _+ℤ_}
 use Rattle.laws.specs.Limit.{limit}
 use Rattle.laws.specs.Run.{plus}
 use Rattle.weights.specs.Weights.{perByte}
-use Rattle.kinds.specs.Kinds.{freshIn, closeOf, ranAs, closedOf}
+use Rattle.kinds.specs.Kinds.{kindOf, freshIn, closeOf, ranAs, closedOf}
 use Rattle.kinds.specs.Sound.{SoundFor}
-use Rattle.tables.specs.Tables.{Singles, Tables, Sized}
+use Rattle.tables.specs.Own.{Own, SizedAt}
 use Rattle.kinds.specs.declared.machine.Machine.{Machine}
 use Rattle.kinds.specs.declared.machine.Ran.{Ran}
 use Rattle.kinds.specs.declared.machine.Ran.the-variants as ran
@@ -24,12 +24,12 @@ settledOf p s ran.Dropped = place (freshIn (p .machine)) None
 settledOf p s ran.Unfit = p
 
 -- the end of the stream alone
-unfoldable pub endFrom : Singles → List ℤ → Place → Score → Place
-endFrom s w p None = p
-endFrom s w p (Live n) = placeAs (p .machine) (plus n (closeOf s w (p .machine)))
+unfoldable pub endFrom : Own → Place → Score → Place
+endFrom t p None = p
+endFrom t p (Live n) = placeAs (p .machine) (plus n (closeOf t (p .machine)))
 
-abbrev pub endOf : Singles → List ℤ → Place → Place
-endOf s w p = endFrom s w p (p .score)
+abbrev pub endOf : Own → Place → Place
+endOf t p = endFrom t p (p .score)
 
 -- ---- what the code's steps ask
 -- the sum fits
@@ -43,16 +43,16 @@ SmallScore c None = Unit {0}
 SmallScore c (Live s) = natAbs s ≤ c
 
 -- the end of the stream is answered
-abbrev pub Closes : Singles → List ℤ → Machine → Type 0
-Closes s w m = closedOf s w m ≡ ranAs (closeOf s w m)
+abbrev pub Closes : Own → Machine → Type 0
+Closes t m = closedOf t m ≡ ranAs (closeOf t m)
 
-pub record FitEnd (s : Singles) (w : List ℤ) (p : Place) : Type 0 where
-  pub closes : Closes s w (p .machine)
+pub record FitEnd (t : Own) (p : Place) : Type 0 where
+  pub closes : Closes t (p .machine)
   pub small : SmallScore (2 * perByte * limit) (p .score)
 
 -- a part that is not too long, of a place that so many bytes can have led to, over tables of exact lengths
-pub record FitPart (t : Tables) (p : Place) (bytes : ℕ) : Type 0 where
-  pub sized : Sized t
+pub record FitPart (t : Own) (p : Place) (bytes : ℕ) : Type 0 where
+  pub sized : SizedAt (kindOf (p .machine)) t
   pub sound : SoundFor limit limit (p .machine)
   pub small : SmallScore (perByte * limit) (p .score)
   pub short : bytes ≤ limit

@@ -10,8 +10,6 @@ use crate::place::Slate;
 use kinds::machine::Machine;
 use records::fresh;
 use records::sound;
-use tables::tests::both;
-use tables::tests::either;
 
 // What one byte adds to a score at most.
 const PER_BYTE: u64 = 10_737_418_240;
@@ -21,7 +19,10 @@ fn reach(machine: Machine, bytes: u64, closed: bool) -> u64
     requires { ⌜ bytes ≤ limit ⌝ }
     ensures { λ r. ⌜ r ≡ reachOf machine bytes closed ⌝ }
 {
-    if both(closed, sound::takes_space(machine)) {
+    if !closed {
+        return bytes;
+    }
+    if sound::takes_space(machine) {
         return bytes + 1;
     }
     bytes
@@ -53,7 +54,7 @@ fn is_unfed(place: Place) -> bool
 {
     let machine = place.machine;
     let score = place.score;
-    both(fresh::is_fresh(machine), is_zero_or_none(score))
+    fresh::is_fresh(machine) && is_zero_or_none(score)
 }
 
 // Whether it can stand at place k: after so many bytes, the stream closed or not, fed already or not.
@@ -64,14 +65,9 @@ fn is_in_order(place: Place, k: usize, bytes: u64, closed: bool, fed: bool) -> b
     let machine = place.machine;
     let score = place.score;
     let most = reach(machine, bytes, closed);
-    let scored = both(
-        is_scored(machine, score, most),
-        either(fed, is_unfed(place)),
-    );
-    both(
-        machine.kind() == k,
-        both(sound::is_sound(machine, bytes, most), scored),
-    )
+    machine.kind() == k
+        && (sound::is_sound(machine, bytes, most)
+            && (is_scored(machine, score, most) && (fed || is_unfed(place))))
 }
 
 // Whether all places can stand so.

@@ -1,6 +1,6 @@
 // All eight places.
 ghost use mathlib.Core.Path.{_≡_};
-ghost use Rattle.tables.specs.Tables.{single, singles, tables, Sized};
+ghost use Rattle.tables.specs.Tables.{tables, Sized};
 ghost use lib.ListN.{length};
 ghost use Prim.Native.Nat.{_<_, _≤_};
 ghost use mathlib.Core.Bool.{true, false};
@@ -21,7 +21,6 @@ use iso2022jp::Iso2022Jp;
 use kinds::machine::Machine;
 use logical::Logical;
 use tables;
-use tables::tests::both;
 use utf8::Utf8;
 use visual::Visual;
 
@@ -70,6 +69,7 @@ pub fn start(bits: u8) -> Slate
     ]
 }
 
+// Each place over its own tables; those that it does not have are empty.
 fn feed_each(
     places: Slate,
     part: &[u8],
@@ -92,40 +92,34 @@ fn feed_each(
     extras: &[i16],
     weights: &[i32],
 ) -> Slate
-    requires { ⌜ Sized (tables (singles (single (now classes4) (now marks4) (now pairs4)) (single (now classes5) (now marks5) (now pairs5)) (single (now classes6) (now marks6) (now pairs6)) (single (now classes7) (now marks7) (now pairs7))) (now big5) (now euckr) (now jis) (now extras) (now weights)) ⌝ }
+    requires { ⌜ Sized (tables (now classes4) (now marks4) (now pairs4) (now classes5) (now marks5) (now pairs5) (now classes6) (now marks6) (now pairs6) (now classes7) (now marks7) (now pairs7) (now big5) (now euckr) (now jis) (now extras) (now weights)) ⌝ }
     requires { ⌜ SlateFor limit false true places ⌝ }
     requires { ⌜ length (now part) ≤ limit ⌝ }
-    ensures { λ r. ⌜ r ≡ feedAll (tables (singles (single (now (classes4 .entry)) (now (marks4 .entry)) (now (pairs4 .entry))) (single (now (classes5 .entry)) (now (marks5 .entry)) (now (pairs5 .entry))) (single (now (classes6 .entry)) (now (marks6 .entry)) (now (pairs6 .entry))) (single (now (classes7 .entry)) (now (marks7 .entry)) (now (pairs7 .entry)))) (now (big5 .entry)) (now (euckr .entry)) (now (jis .entry)) (now (extras .entry)) (now (weights .entry))) last (now (part .entry)) places ⌝ }
-    ensures { λ r. ⌜ AllKept (tables (singles (single (now (classes4 .entry)) (now (marks4 .entry)) (now (pairs4 .entry))) (single (now (classes5 .entry)) (now (marks5 .entry)) (now (pairs5 .entry))) (single (now (classes6 .entry)) (now (marks6 .entry)) (now (pairs6 .entry))) (single (now (classes7 .entry)) (now (marks7 .entry)) (now (pairs7 .entry)))) (now (big5 .entry)) (now (euckr .entry)) (now (jis .entry)) (now (extras .entry)) (now (weights .entry))) last (now (part .entry)) places ⌝ }
+    ensures { λ r. ⌜ r ≡ feedAll (tables (now (classes4 .entry)) (now (marks4 .entry)) (now (pairs4 .entry)) (now (classes5 .entry)) (now (marks5 .entry)) (now (pairs5 .entry)) (now (classes6 .entry)) (now (marks6 .entry)) (now (pairs6 .entry)) (now (classes7 .entry)) (now (marks7 .entry)) (now (pairs7 .entry)) (now (big5 .entry)) (now (euckr .entry)) (now (jis .entry)) (now (extras .entry)) (now (weights .entry))) last (now (part .entry)) places ⌝ }
+    ensures { λ r. ⌜ AllKept (tables (now (classes4 .entry)) (now (marks4 .entry)) (now (pairs4 .entry)) (now (classes5 .entry)) (now (marks5 .entry)) (now (pairs5 .entry)) (now (classes6 .entry)) (now (marks6 .entry)) (now (pairs6 .entry)) (now (classes7 .entry)) (now (marks7 .entry)) (now (pairs7 .entry)) (now (big5 .entry)) (now (euckr .entry)) (now (jis .entry)) (now (extras .entry)) (now (weights .entry))) last (now (part .entry)) places ⌝ }
 {
-    let mut out = places;
-    let mut i = 0;
-    while i < PLACES {
-        let p = out[i];
-        out[i] = p.feed(
-            part,
-            last,
-            classes4,
-            marks4,
-            pairs4,
-            classes5,
-            marks5,
-            pairs5,
-            classes6,
-            marks6,
-            pairs6,
-            classes7,
-            marks7,
-            pairs7,
-            big5,
-            euckr,
-            jis,
-            extras,
-            weights,
-        );
-        i += 1;
-    }
-    out
+    let utf8 = places[0];
+    let iso2022jp = places[1];
+    let korean = places[2];
+    let chinese = places[3];
+    let caseless = places[4];
+    let logical = places[5];
+    let visual = places[6];
+    let arabic = places[7];
+    let bytes = &classes4[..0];
+    let scores = &pairs4[..0];
+    let index = &big5[..0];
+    let terms = &weights[..0];
+    [
+        utf8.feed(part, last, bytes, bytes, scores, index, scores, terms),
+        iso2022jp.feed(part, last, bytes, bytes, scores, jis, scores, terms),
+        korean.feed(part, last, bytes, bytes, scores, euckr, extras, weights),
+        chinese.feed(part, last, bytes, bytes, scores, big5, scores, weights),
+        caseless.feed(part, last, classes4, marks4, pairs4, index, scores, weights),
+        logical.feed(part, last, classes5, marks5, pairs5, index, scores, weights),
+        visual.feed(part, last, classes6, marks6, pairs6, index, scores, weights),
+        arabic.feed(part, last, classes7, marks7, pairs7, index, scores, weights),
+    ]
 }
 
 // A part of a chunk to all places.
@@ -151,10 +145,16 @@ pub fn feed(
     extras: &[i16],
     weights: &[i32],
 ) -> Slated
-    ensures { λ r. ⌜ r ≡ slatedOf (tables (singles (single (now (classes4 .entry)) (now (marks4 .entry)) (now (pairs4 .entry))) (single (now (classes5 .entry)) (now (marks5 .entry)) (now (pairs5 .entry))) (single (now (classes6 .entry)) (now (marks6 .entry)) (now (pairs6 .entry))) (single (now (classes7 .entry)) (now (marks7 .entry)) (now (pairs7 .entry)))) (now (big5 .entry)) (now (euckr .entry)) (now (jis .entry)) (now (extras .entry)) (now (weights .entry))) last (now (part .entry)) places ⌝ }
-    ensures { λ r. ⌜ KeptIf (r .fit) (tables (singles (single (now (classes4 .entry)) (now (marks4 .entry)) (now (pairs4 .entry))) (single (now (classes5 .entry)) (now (marks5 .entry)) (now (pairs5 .entry))) (single (now (classes6 .entry)) (now (marks6 .entry)) (now (pairs6 .entry))) (single (now (classes7 .entry)) (now (marks7 .entry)) (now (pairs7 .entry)))) (now (big5 .entry)) (now (euckr .entry)) (now (jis .entry)) (now (extras .entry)) (now (weights .entry))) last (now (part .entry)) places ⌝ }
+    ensures { λ r. ⌜ r ≡ slatedOf (tables (now (classes4 .entry)) (now (marks4 .entry)) (now (pairs4 .entry)) (now (classes5 .entry)) (now (marks5 .entry)) (now (pairs5 .entry)) (now (classes6 .entry)) (now (marks6 .entry)) (now (pairs6 .entry)) (now (classes7 .entry)) (now (marks7 .entry)) (now (pairs7 .entry)) (now (big5 .entry)) (now (euckr .entry)) (now (jis .entry)) (now (extras .entry)) (now (weights .entry))) last (now (part .entry)) places ⌝ }
+    ensures { λ r. ⌜ KeptIf (r .fit) (tables (now (classes4 .entry)) (now (marks4 .entry)) (now (pairs4 .entry)) (now (classes5 .entry)) (now (marks5 .entry)) (now (pairs5 .entry)) (now (classes6 .entry)) (now (marks6 .entry)) (now (pairs6 .entry)) (now (classes7 .entry)) (now (marks7 .entry)) (now (pairs7 .entry)) (now (big5 .entry)) (now (euckr .entry)) (now (jis .entry)) (now (extras .entry)) (now (weights .entry))) last (now (part .entry)) places ⌝ }
 {
-    let sized = tables::are_sized(
+    if lengths::MOST < part.len() {
+        return Slated { fit: false, places };
+    }
+    if !order::are_in_order(places, lengths::LIMIT, false, true) {
+        return Slated { fit: false, places };
+    }
+    if !tables::are_sized(
         classes4,
         marks4,
         pairs4,
@@ -172,38 +172,32 @@ pub fn feed(
         jis,
         extras,
         weights,
-    );
-    let slate = both(
-        order::are_in_order(places, lengths::LIMIT, false, true),
-        sized,
-    );
-    let fit = both(part.len() <= lengths::MOST, slate);
-    if fit {
-        return Slated {
-            fit,
-            places: feed_each(
-                places,
-                part,
-                last,
-                classes4,
-                marks4,
-                pairs4,
-                classes5,
-                marks5,
-                pairs5,
-                classes6,
-                marks6,
-                pairs6,
-                classes7,
-                marks7,
-                pairs7,
-                big5,
-                euckr,
-                jis,
-                extras,
-                weights,
-            ),
-        };
+    ) {
+        return Slated { fit: false, places };
     }
-    Slated { fit, places }
+    Slated {
+        fit: true,
+        places: feed_each(
+            places,
+            part,
+            last,
+            classes4,
+            marks4,
+            pairs4,
+            classes5,
+            marks5,
+            pairs5,
+            classes6,
+            marks6,
+            pairs6,
+            classes7,
+            marks7,
+            pairs7,
+            big5,
+            euckr,
+            jis,
+            extras,
+            weights,
+        ),
+    }
 }

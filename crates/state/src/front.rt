@@ -3,9 +3,6 @@ ghost use mathlib.Core.Path.{_≡_};
 ghost use Rattle.state.specs.State.{fresh, flagOf, triggered};
 ghost use Rattle.state.specs.Order.{plainB, savedB, frontB};
 use context::Context;
-use places::order;
-use tables::tests::both;
-use tables::tests::either;
 
 pub struct Front {
     pub context: Context,
@@ -39,7 +36,7 @@ impl Front {
     pub fn is_triggered(self) -> bool
         ensures { λ r. ⌜ r ≡ triggered self ⌝ }
     {
-        either(self.esc_seen, self.flag())
+        self.esc_seen || self.flag()
     }
 
     // Whether a state in order can have it.
@@ -47,11 +44,9 @@ impl Front {
         ensures { λ r. ⌜ r ≡ frontB self ⌝ }
     {
         let context = self.context;
-        let saved = both(context.len as u64 <= self.bytes, is_saved(context));
-        both(
-            self.bytes <= lengths::LIMIT,
-            both(self.non_ascii_seen <= self.bytes, saved),
-        )
+        self.bytes <= lengths::LIMIT
+            && (self.non_ascii_seen <= self.bytes
+                && (context.len as u64 <= self.bytes && is_saved(context)))
     }
 }
 
@@ -59,7 +54,7 @@ impl Front {
 fn is_plain(b: u8) -> bool
     ensures { λ r. ⌜ r ≡ plainB b ⌝ }
 {
-    !either(b == 0x1B, octets::is_non_ascii(b))
+    b != 0x1B && !octets::is_non_ascii(b)
 }
 
 // What stands past a context's length is not looked at.
@@ -67,9 +62,11 @@ fn is_saved(context: Context) -> bool
     ensures { λ r. ⌜ r ≡ savedB context ⌝ }
 {
     let len = context.len;
-    let second = either(len < 2, is_plain(context.second));
-    both(
-        len <= Context::MOST,
-        both(either(len == 0, is_plain(context.first)), second),
-    )
+    if Context::MOST < len {
+        return false;
+    }
+    if len == 0 {
+        return true;
+    }
+    is_plain(context.first) && (len < 2 || is_plain(context.second))
 }

@@ -11,7 +11,6 @@ use front::Front;
 use places::order;
 use places::place::Slate;
 use places::slate;
-use tables::tests::both;
 
 pub struct State {
     pub front: Front,
@@ -36,9 +35,6 @@ impl State {
         let front = self.front;
         let places = self.places;
         let fed = front.is_triggered();
-        both(
-            front.is_in_order(),
-            order::are_in_order(places, front.bytes, front.closed, fed),
-        )
+        front.is_in_order() && order::are_in_order(places, front.bytes, front.closed, fed)
     }
 }

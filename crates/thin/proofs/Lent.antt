@@ -19,7 +19,7 @@ use denote.Slice.{ShrSlice, slice-vals, shr-slice-tells, shr-slice-lawful}
 use denote.Struct.Laws as LL
 use denote.Triple.End.{Fins}
 use denote.Triple.Entry.{Args}
-use Rattle.tables.specs.Tables.{Tables, single, singles, tables}
+use Rattle.tables.specs.Tables.{Tables, tables}
 use Rattle.state.proofs.front.Front as F
 use Rattle.places.proofs.place.Place as P
 use Rattle.places.proofs.place.Place.Laws as P′
@@ -60,7 +60,7 @@ module _ (κs : Lfts 19) where
   abbrev pub lent : Args feed.signature κs → Tables
   lent a =
       let s₄ = a .1 .1 .1 .1 in let s₅ = s₄ .1 .1 .1 in let s₆ = s₅ .1 .1 .1 in let s₇ = s₆ .1 .1 .1 in let s = s₇ .1 .1 .1 in
-      tables (singles (single (s₄ .0 .now) (s₄ .1 .0 .now) (s₄ .1 .1 .0 .now)) (single (s₅ .0 .now) (s₅ .1 .0 .now) (s₅ .1 .1 .0 .now)) (single (s₆ .0 .now) (s₆ .1 .0 .now) (s₆ .1 .1 .0 .now)) (single (s₇ .0 .now) (s₇ .1 .0 .now) (s₇ .1 .1 .0 .now))) (s .0 .now) (s .1 .0 .now) (s .1 .1 .0 .now) (s .1 .1 .1 .0 .now) (s .1 .1 .1 .1 .0 .now)
+      tables (s₄ .0 .now) (s₄ .1 .0 .now) (s₄ .1 .1 .0 .now) (s₅ .0 .now) (s₅ .1 .0 .now) (s₅ .1 .1 .0 .now) (s₆ .0 .now) (s₆ .1 .0 .now) (s₆ .1 .1 .0 .now) (s₇ .0 .now) (s₇ .1 .0 .now) (s₇ .1 .1 .0 .now) (s .0 .now) (s .1 .0 .now) (s .1 .1 .0 .now) (s .1 .1 .1 .0 .now) (s .1 .1 .1 .1 .0 .now)
 
   -- no last value but the front's
   abbrev pub none : (a : Args feed.signature κs) → Fins κs others (feed.ended .kept .1) (a .1)

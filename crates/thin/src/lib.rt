@@ -1,7 +1,7 @@
 // The thin form of a feed, for a loop that keeps the front in one place: the front is lent by `&mut`, the places go in and
 // come back by value.
 ghost use mathlib.Core.Path.{_≡_};
-ghost use Rattle.tables.specs.Tables.{single, singles, tables};
+ghost use Rattle.tables.specs.Tables.{tables};
 ghost use Rattle.thin.specs.Thin.{steppedOf, thinOf, frontAfter};
 use detector::feed;
 use places::place::Slate;
@@ -43,7 +43,7 @@ fn step(
     extras: &[i16],
     weights: &[i32],
 ) -> Stepped
-    ensures { λ r. ⌜ r ≡ steppedOf (tables (singles (single (now (classes4 .entry)) (now (marks4 .entry)) (now (pairs4 .entry))) (single (now (classes5 .entry)) (now (marks5 .entry)) (now (pairs5 .entry))) (single (now (classes6 .entry)) (now (marks6 .entry)) (now (pairs6 .entry))) (single (now (classes7 .entry)) (now (marks7 .entry)) (now (pairs7 .entry)))) (now (big5 .entry)) (now (euckr .entry)) (now (jis .entry)) (now (extras .entry)) (now (weights .entry))) front places (now (chunk .entry)) last ⌝ }
+    ensures { λ r. ⌜ r ≡ steppedOf (tables (now (classes4 .entry)) (now (marks4 .entry)) (now (pairs4 .entry)) (now (classes5 .entry)) (now (marks5 .entry)) (now (pairs5 .entry)) (now (classes6 .entry)) (now (marks6 .entry)) (now (pairs6 .entry)) (now (classes7 .entry)) (now (marks7 .entry)) (now (pairs7 .entry)) (now (big5 .entry)) (now (euckr .entry)) (now (jis .entry)) (now (extras .entry)) (now (weights .entry))) front places (now (chunk .entry)) last ⌝ }
 {
     let fed = feed::feed(
         State { front, places },
@@ -101,7 +101,7 @@ pub fn feed(
     extras: &[i16],
     weights: &[i32],
 ) -> Thin
-    ensures { λ r. ⌜ (r ≡ thinOf (tables (singles (single (now (classes4 .entry)) (now (marks4 .entry)) (now (pairs4 .entry))) (single (now (classes5 .entry)) (now (marks5 .entry)) (now (pairs5 .entry))) (single (now (classes6 .entry)) (now (marks6 .entry)) (now (pairs6 .entry))) (single (now (classes7 .entry)) (now (marks7 .entry)) (now (pairs7 .entry)))) (now (big5 .entry)) (now (euckr .entry)) (now (jis .entry)) (now (extras .entry)) (now (weights .entry))) (now (front .entry)) places (now (chunk .entry)) last) × (now (front .exit) ≡ frontAfter (tables (singles (single (now (classes4 .entry)) (now (marks4 .entry)) (now (pairs4 .entry))) (single (now (classes5 .entry)) (now (marks5 .entry)) (now (pairs5 .entry))) (single (now (classes6 .entry)) (now (marks6 .entry)) (now (pairs6 .entry))) (single (now (classes7 .entry)) (now (marks7 .entry)) (now (pairs7 .entry)))) (now (big5 .entry)) (now (euckr .entry)) (now (jis .entry)) (now (extras .entry)) (now (weights .entry))) (now (front .entry)) places (now (chunk .entry)) last) ⌝ }
+    ensures { λ r. ⌜ (r ≡ thinOf (tables (now (classes4 .entry)) (now (marks4 .entry)) (now (pairs4 .entry)) (now (classes5 .entry)) (now (marks5 .entry)) (now (pairs5 .entry)) (now (classes6 .entry)) (now (marks6 .entry)) (now (pairs6 .entry)) (now (classes7 .entry)) (now (marks7 .entry)) (now (pairs7 .entry)) (now (big5 .entry)) (now (euckr .entry)) (now (jis .entry)) (now (extras .entry)) (now (weights .entry))) (now (front .entry)) places (now (chunk .entry)) last) × (now (front .exit) ≡ frontAfter (tables (now (classes4 .entry)) (now (marks4 .entry)) (now (pairs4 .entry)) (now (classes5 .entry)) (now (marks5 .entry)) (now (pairs5 .entry)) (now (classes6 .entry)) (now (marks6 .entry)) (now (pairs6 .entry)) (now (classes7 .entry)) (now (marks7 .entry)) (now (pairs7 .entry)) (now (big5 .entry)) (now (euckr .entry)) (now (jis .entry)) (now (extras .entry)) (now (weights .entry))) (now (front .entry)) places (now (chunk .entry)) last) ⌝ }
 {
     let old = *front;
     let stepped = step(

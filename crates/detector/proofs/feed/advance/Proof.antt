@@ -5,7 +5,7 @@ use Prim.Native.Nat.{ℕ, _-_, _≤_}
 use native.Mathlib.Omega.{arith}
 use lib.ListN.{length, take, drop, length-take, length-drop}
 use Rattle.laws.specs.Lists.{rest-is}
-use Rattle.tables.specs.Tables.{Tables, single, singles, tables}
+use Rattle.tables.specs.Tables.{Tables, tables}
 use Rattle.detector.specs.FeedLaws.{way-nothing, way-part, way-after}
 use Rattle.detector.specs.Front.{triggerOf, uncounted}
 use Rattle.detector.specs.Due.{DueBy, Roomy}
@@ -15,7 +15,7 @@ use Rattle.detector.proofs.feed.advance.Statement.{statement}
 use Rattle.detector.proofs.feed.advance.Tie as tie
 
 abbrev lent : tie.Start → Tables
-lent s = tables (singles (single (s .args .classes4 .now) (s .args .marks4 .now) (s .args .pairs4 .now)) (single (s .args .classes5 .now) (s .args .marks5 .now) (s .args .pairs5 .now)) (single (s .args .classes6 .now) (s .args .marks6 .now) (s .args .pairs6 .now)) (single (s .args .classes7 .now) (s .args .marks7 .now) (s .args .pairs7 .now))) (s .args .big5 .now) (s .args .euckr .now) (s .args .jis .now) (s .args .extras .now) (s .args .weights .now)
+lent s = tables (s .args .classes4 .now) (s .args .marks4 .now) (s .args .pairs4 .now) (s .args .classes5 .now) (s .args .marks5 .now) (s .args .pairs5 .now) (s .args .classes6 .now) (s .args .marks6 .now) (s .args .pairs6 .now) (s .args .classes7 .now) (s .args .marks7 .now) (s .args .pairs7 .now) (s .args .big5 .now) (s .args .euckr .now) (s .args .jis .now) (s .args .extras .now) (s .args .weights .now)
 
 -- the front after the chunk, uncounted
 module _ (c : tie.After-after) where

@@ -1,7 +1,7 @@
 -- `feed` meets its contract. Assumes nothing.
 use mathlib.Core.Path.{_≡_, sym, _∙_}
 use lib.ListN.{length}
-use Rattle.tables.specs.Tables.{Tables, single, singles, tables, sizedB}
+use Rattle.tables.specs.Tables.{Tables, tables, sizedB}
 use Rattle.detector.specs.Feed.{refusalOf}
 use Rattle.detector.specs.FeedLaws.{refused-stays, accept-fit, feed-refused, feed-accepted}
 use borrow.Author.Needs.{needs}
@@ -9,7 +9,7 @@ use Rattle.detector.proofs.feed.feed.Statement.{statement}
 use Rattle.detector.proofs.feed.feed.Tie as tie
 
 abbrev lent : tie.Start → Tables
-lent s = tables (singles (single (s .args .classes4 .now) (s .args .marks4 .now) (s .args .pairs4 .now)) (single (s .args .classes5 .now) (s .args .marks5 .now) (s .args .pairs5 .now)) (single (s .args .classes6 .now) (s .args .marks6 .now) (s .args .pairs6 .now)) (single (s .args .classes7 .now) (s .args .marks7 .now) (s .args .pairs7 .now))) (s .args .big5 .now) (s .args .euckr .now) (s .args .jis .now) (s .args .extras .now) (s .args .weights .now)
+lent s = tables (s .args .classes4 .now) (s .args .marks4 .now) (s .args .pairs4 .now) (s .args .classes5 .now) (s .args .marks5 .now) (s .args .pairs5 .now) (s .args .classes6 .now) (s .args .marks6 .now) (s .args .pairs6 .now) (s .args .classes7 .now) (s .args .marks7 .now) (s .args .pairs7 .now) (s .args .big5 .now) (s .args .euckr .now) (s .args .jis .now) (s .args .extras .now) (s .args .weights .now)
 
 verdict : (c : tie.After-judged) → c .judged .result ≡ refusalOf (lent (c .before .before .before .before .before .before .before .before .before .before .before .before .before .before)) (c .before .before .before .before .before .before .before .before .before .before .before .before .before .before .args .state) (c .before .before .before .before .before .before .before .before .before .before .before .before .before .before .args .chunk .now)
 verdict c = rw (c .before .are-sized .ensures) at (c .judged .ensures)

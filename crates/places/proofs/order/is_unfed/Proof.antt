@@ -1,6 +1,7 @@
 -- `is_unfed` meets its contract. Assumes nothing.
-use Rattle.places.specs.Order.{unfedB}
+use mathlib.Core.Path.{sym, _∙_}
 use borrow.Author.Needs.{needs}
+use Rattle.places.specs.Order.{unfedB}
 use Rattle.places.proofs.order.is_unfed.Statement.{statement}
 use Rattle.places.proofs.order.is_unfed.Tie as tie
 
@@ -10,13 +11,13 @@ is-fresh-requires c κs = search needs
 is-zero-or-none-requires : tie.Need-is-zero-or-none-requires
 is-zero-or-none-requires c κs = search needs
 
-both-requires : tie.Need-both-requires
-both-requires c κs = search needs
-
 returns : tie.Need-returns
 unfolding unfedB
-returns c = rw (c .both .ensures, c .before .is-zero-or-none .ensures, c .before .before .is-fresh .ensures)
+returns c = rw (sym (c .before .before .is-fresh .ensures) ∙ c .before .if1 .taken) (c .is-zero-or-none .ensures)
+
+returns-2 : tie.Need-returns-2
+unfolding unfedB
+returns-2 c = rw (sym (c .before .is-fresh .ensures) ∙ c .if1 .left) (c .if1 .left)
 
 pub is-unfed-spec : {M : Type 1} → statement M
-is-unfed-spec =
-    tie.close (tie.spec is-fresh-requires is-zero-or-none-requires both-requires returns)
+is-unfed-spec = tie.close (tie.spec is-fresh-requires is-zero-or-none-requires returns returns-2)

@@ -1,64 +1,87 @@
--- `feed_each` meets its contract: the first places were fed. The measure is how many are left. Assumes nothing.
-use Prim.Native.Nat.{_-_}
+-- `feed_each` meets its contract: each place is given its own tables. Assumes nothing.
+use mathlib.Core.Path.{_≡_, refl, sym, ap, subst, _∙_}
 use native.Mathlib.Omega.{arith}
+use lib.ListN.{length}
 use borrow.Author.Needs.{needs}
-use Rattle.tables.specs.Tables.{Tables, single, singles, tables}
-use Rattle.places.specs.SlateLaws.{Feeding, feeding-start, feeding-fit, feeding-next, feeding-done}
+use Rattle.tables.specs.Tables.{Tables, tables}
+use Rattle.places.specs.Kept.{AllKept}
+use Rattle.places.specs.Slate.{feedFrom, feedAll}
+use Rattle.places.specs.SlateLaws.{fit-place, eight, joined}
 use Rattle.places.proofs.slate.feed_each.Statement.{statement}
 use Rattle.places.proofs.slate.feed_each.Tie as tie
 
-abbrev Inv-loop : tie.InvT-loop
-Inv-loop part last classes4 marks4 pairs4 classes5 marks5 pairs5 classes6 marks6 pairs6 classes7 marks7 pairs7 big5 euckr jis extras weights out₀ i₀ out i = Feeding (tables (singles (single classes4 marks4 pairs4) (single classes5 marks5 pairs5) (single classes6 marks6 pairs6) (single classes7 marks7 pairs7)) big5 euckr jis extras weights) last part out₀ i out
+abbrev lent : tie.Start → Tables
+lent s = tables (s .args .classes4 .now) (s .args .marks4 .now) (s .args .pairs4 .now) (s .args .classes5 .now) (s .args .marks5 .now) (s .args .pairs5 .now) (s .args .classes6 .now) (s .args .marks6 .now) (s .args .pairs6 .now) (s .args .classes7 .now) (s .args .marks7 .now) (s .args .pairs7 .now) (s .args .big5 .now) (s .args .euckr .now) (s .args .jis .now) (s .args .extras .now) (s .args .weights .now)
 
-abbrev μ-loop : tie.MeasureT-loop
-μ-loop part last classes4 marks4 pairs4 classes5 marks5 pairs5 classes6 marks6 pairs6 classes7 marks7 pairs7 big5 euckr jis extras weights out₀ i₀ out i = 8 - i
+long : (s : tie.Start) → length (s .args .t1) ≡ 8
+long s = search needs
 
-abbrev lent : tie.Start Inv-loop μ-loop → Tables
-lent s = tables (singles (single (s .args .classes4 .now) (s .args .marks4 .now) (s .args .pairs4 .now)) (single (s .args .classes5 .now) (s .args .marks5 .now) (s .args .pairs5 .now)) (single (s .args .classes6 .now) (s .args .marks6 .now) (s .args .pairs6 .now)) (single (s .args .classes7 .now) (s .args .marks7 .now) (s .args .pairs7 .now))) (s .args .big5 .now) (s .args .euckr .now) (s .args .jis .now) (s .args .extras .now) (s .args .weights .now)
+array-copy-out-utf8 : tie.Need-array-copy-out-utf8
+array-copy-out-utf8 c = search needs
 
-loop-holds : tie.Need-loop-holds Inv-loop μ-loop
-loop-holds c = let s = c .before .before .before .before .before .before .before .before .before .before .before .before in feeding-start (lent s) (s .args .last) (s .args .part .now) (s .args .places) (search needs)
+array-copy-out-iso2022jp : tie.Need-array-copy-out-iso2022jp
+array-copy-out-iso2022jp c = search needs
 
-mul-p : tie.Need-mul-p Inv-loop μ-loop
-mul-p c = omega arith
+array-copy-out-korean : tie.Need-array-copy-out-korean
+array-copy-out-korean c = search needs
 
-array-copy-out-p : tie.Need-array-copy-out-p Inv-loop μ-loop
-array-copy-out-p c = omega arith
+array-copy-out-chinese : tie.Need-array-copy-out-chinese
+array-copy-out-chinese c = search needs
 
-feed-requires : tie.Need-feed-requires Inv-loop μ-loop
-feed-requires c κs = let s = c .before .before .before .before .before .before .before .before .before .before .before .before .before .before .before in let l = c .before .before .loop in feeding-fit (lent s) (s .args .last) (s .args .part .now) (s .args .places) (l .i) (l .out) _ (l .inv) (c .before .loop-test .taken) (s .pre .0) (s .pre .1 .1) (s .pre .1 .0)
+array-copy-out-caseless : tie.Need-array-copy-out-caseless
+array-copy-out-caseless c = search needs
 
-mul-out : tie.Need-mul-out Inv-loop μ-loop
-mul-out c = omega arith
+array-copy-out-logical : tie.Need-array-copy-out-logical
+array-copy-out-logical c = search needs
 
-array-set-from-out : tie.Need-array-set-from-out Inv-loop μ-loop
-array-set-from-out c = omega arith
+array-copy-out-visual : tie.Need-array-copy-out-visual
+array-copy-out-visual c = search needs
 
-add-i : tie.Need-add-i Inv-loop μ-loop
-add-i c = omega arith
+array-copy-out-arabic : tie.Need-array-copy-out-arabic
+array-copy-out-arabic c = search needs
 
-loop-less : tie.Need-loop-less Inv-loop μ-loop
-loop-less c = omega arith
+slice-aggregate-bytes : tie.Need-slice-aggregate-bytes
+slice-aggregate-bytes c = search needs
 
-loop-again : tie.Need-loop-again Inv-loop μ-loop
-loop-again c = let s = c .before .before .before .before .before .before .before .before .before .before .before .before .before .before .before .before in let l = c .before .before .before .loop in feeding-next (lent s) (s .args .last) (s .args .part .now) (s .args .places) (l .i) (l .out) _ (l .inv) (c .before .before .loop-test .taken) (c .feed .result) (c .feed .ensures .0) (c .feed .ensures .1)
+slice-aggregate-scores : tie.Need-slice-aggregate-scores
+slice-aggregate-scores c = search needs
 
-returns : tie.Need-returns Inv-loop μ-loop
-returns c = let s = c .before .before .before .before .before .before .before .before .before .before .before .before .before .before in let l = c .before .loop in feeding-done (lent s) (s .args .last) (s .args .part .now) (s .args .places) (l .i) (l .out) (l .inv) (omega (arith, c .loop-test .left))
+slice-aggregate-index : tie.Need-slice-aggregate-index
+slice-aggregate-index c = search needs
+
+slice-aggregate-terms : tie.Need-slice-aggregate-terms
+slice-aggregate-terms c = search needs
+
+feed-requires : tie.Need-feed-requires
+feed-requires c κs = let s = c .before .before .before .before .before .before .before .before .before .before .before .before .before .before .before .before .before .before .before .before .before .before .before .before in fit-place (lent s) (s .args .part .now) (s .args .t1) 0 _ (s .pre .0) (s .pre .1 .0) (s .pre .1 .1) (long s) (omega arith)
+
+feed-requires-2 : tie.Need-feed-requires-2
+feed-requires-2 c κs = let s = c .before .before .before .before .before .before .before .before .before .before .before .before .before .before .before .before .before .before .before .before .before .before .before .before .before in fit-place (lent s) (s .args .part .now) (s .args .t1) 1 _ (s .pre .0) (s .pre .1 .0) (s .pre .1 .1) (long s) (omega arith)
+
+feed-requires-3 : tie.Need-feed-requires-3
+feed-requires-3 c κs = let s = c .before .before .before .before .before .before .before .before .before .before .before .before .before .before .before .before .before .before .before .before .before .before .before .before .before .before in fit-place (lent s) (s .args .part .now) (s .args .t1) 2 _ (s .pre .0) (s .pre .1 .0) (s .pre .1 .1) (long s) (omega arith)
+
+feed-requires-4 : tie.Need-feed-requires-4
+feed-requires-4 c κs = let s = c .before .before .before .before .before .before .before .before .before .before .before .before .before .before .before .before .before .before .before .before .before .before .before .before .before .before .before in fit-place (lent s) (s .args .part .now) (s .args .t1) 3 _ (s .pre .0) (s .pre .1 .0) (s .pre .1 .1) (long s) (omega arith)
+
+feed-requires-5 : tie.Need-feed-requires-5
+feed-requires-5 c κs = let s = c .before .before .before .before .before .before .before .before .before .before .before .before .before .before .before .before .before .before .before .before .before .before .before .before .before .before .before .before in fit-place (lent s) (s .args .part .now) (s .args .t1) 4 _ (s .pre .0) (s .pre .1 .0) (s .pre .1 .1) (long s) (omega arith)
+
+feed-requires-6 : tie.Need-feed-requires-6
+feed-requires-6 c κs = let s = c .before .before .before .before .before .before .before .before .before .before .before .before .before .before .before .before .before .before .before .before .before .before .before .before .before .before .before .before .before in fit-place (lent s) (s .args .part .now) (s .args .t1) 5 _ (s .pre .0) (s .pre .1 .0) (s .pre .1 .1) (long s) (omega arith)
+
+feed-requires-7 : tie.Need-feed-requires-7
+feed-requires-7 c κs = let s = c .before .before .before .before .before .before .before .before .before .before .before .before .before .before .before .before .before .before .before .before .before .before .before .before .before .before .before .before .before .before in fit-place (lent s) (s .args .part .now) (s .args .t1) 6 _ (s .pre .0) (s .pre .1 .0) (s .pre .1 .1) (long s) (omega arith)
+
+feed-requires-8 : tie.Need-feed-requires-8
+feed-requires-8 c κs = let s = c .before .before .before .before .before .before .before .before .before .before .before .before .before .before .before .before .before .before .before .before .before .before .before .before .before .before .before .before .before .before .before in fit-place (lent s) (s .args .part .now) (s .args .t1) 7 _ (s .pre .0) (s .pre .1 .0) (s .pre .1 .1) (long s) (omega arith)
+
+returns : tie.Need-returns
+unfolding feedFrom
+returns c =
+    let s = c .before .before .before .before .before .before .before .before .before .before .before .before .before .before .before .before .before .before .before .before .before .before .before .before .before .before .before .before .before .before .before .before in
+    let e = eight (s .args .t1) _ (long s) in
+    (joined (c .before .before .before .before .before .before .before .feed .ensures .0) (joined (c .before .before .before .before .before .before .feed2 .ensures .0) (joined (c .before .before .before .before .before .feed3 .ensures .0) (joined (c .before .before .before .before .feed4 .ensures .0) (joined (c .before .before .before .feed5 .ensures .0) (joined (c .before .before .feed6 .ensures .0) (joined (c .before .feed7 .ensures .0) (joined (c .feed8 .ensures .0) refl))))))) ∙ sym (ap (feedAll (lent s) (s .args .last) (s .args .part .now)) e), subst (AllKept (lent s) (s .args .last) (s .args .part .now)) (sym e) (c .before .before .before .before .before .before .before .feed .ensures .1, (c .before .before .before .before .before .before .feed2 .ensures .1, (c .before .before .before .before .before .feed3 .ensures .1, (c .before .before .before .before .feed4 .ensures .1, (c .before .before .before .feed5 .ensures .1, (c .before .before .feed6 .ensures .1, (c .before .feed7 .ensures .1, (c .feed8 .ensures .1, tt)))))))))
 
 pub feed-each-spec : {M : Type 1} → statement M
-feed-each-spec =
-    tie.close
-    (tie.spec
-    Inv-loop
-    μ-loop
-    loop-holds
-    mul-p
-    array-copy-out-p
-    feed-requires
-    mul-out
-    array-set-from-out
-    add-i
-    loop-less
-    loop-again
-    returns)
+feed-each-spec = tie.close (tie.spec array-copy-out-utf8 array-copy-out-iso2022jp array-copy-out-korean array-copy-out-chinese array-copy-out-caseless array-copy-out-logical array-copy-out-visual array-copy-out-arabic slice-aggregate-bytes slice-aggregate-scores slice-aggregate-index slice-aggregate-terms feed-requires feed-requires-2 feed-requires-3 feed-requires-4 feed-requires-5 feed-requires-6 feed-requires-7 feed-requires-8 returns)

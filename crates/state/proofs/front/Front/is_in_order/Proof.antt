@@ -1,25 +1,28 @@
 -- `is_in_order` meets its contract. Assumes nothing.
-use Rattle.state.specs.Order.{frontB}
+use borrow.Author.Tests.{le-leb, lt-leb}
 use borrow.Author.Needs.{needs}
+use Rattle.state.specs.Order.{frontB}
 use Rattle.state.proofs.front.Front.is_in_order.Statement.{statement}
 use Rattle.state.proofs.front.Front.is_in_order.Tie as tie
 
 is-saved-requires : tie.Need-is-saved-requires
 is-saved-requires c κs = search needs
 
-both-requires : tie.Need-both-requires
-both-requires c κs = search needs
-
-both-requires-2 : tie.Need-both-requires-2
-both-requires-2 c κs = search needs
-
-both-requires-3 : tie.Need-both-requires-3
-both-requires-3 c κs = search needs
-
 returns : tie.Need-returns
 unfolding frontB
-returns c = rw (c .both3 .ensures, c .before .both2 .ensures, c .before .before .before .before .both .ensures, c .before .before .before .before .before .is-saved .ensures)
+returns c = rw (le-leb _ _ (c .before .before .before .before .before .if1 .taken), le-leb _ _ (c .before .before .before .if2 .taken), le-leb _ _ (c .before .if3 .taken)) (c .is-saved .ensures)
+
+returns-2 : tie.Need-returns-2
+unfolding frontB
+returns-2 c = rw (le-leb _ _ (c .before .before .before .before .if1 .taken), le-leb _ _ (c .before .before .if2 .taken), lt-leb _ _ (c .if3 .left))
+
+returns-3 : tie.Need-returns-3
+unfolding frontB
+returns-3 c = rw (le-leb _ _ (c .before .before .if1 .taken), lt-leb _ _ (c .if2 .left))
+
+returns-4 : tie.Need-returns-4
+unfolding frontB
+returns-4 c = rw (lt-leb _ _ (c .if1 .left))
 
 pub is-in-order-spec : {M : Type 1} → statement M
-is-in-order-spec =
-    tie.close (tie.spec is-saved-requires both-requires both-requires-2 both-requires-3 returns)
+is-in-order-spec = tie.close (tie.spec is-saved-requires returns returns-2 returns-3 returns-4)

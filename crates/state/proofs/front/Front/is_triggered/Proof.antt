@@ -6,11 +6,11 @@ use Rattle.state.proofs.front.Front.is_triggered.Tie as tie
 flag-requires : tie.Need-flag-requires
 flag-requires c κs = search needs
 
-either-requires : tie.Need-either-requires
-either-requires c κs = search needs
-
 returns : tie.Need-returns
-returns c = rw (c .either .ensures, c .before .flag .ensures)
+returns c = rw (c .if1 .taken)
+
+returns-2 : tie.Need-returns-2
+returns-2 c = rw (c .before .if1 .left) (c .flag .ensures)
 
 pub is-triggered-spec : {M : Type 1} → statement M
-is-triggered-spec = tie.close (tie.spec flag-requires either-requires returns)
+is-triggered-spec = tie.close (tie.spec flag-requires returns returns-2)
