@@ -25,7 +25,7 @@ pub fn halves(from: &[u8], to: &mut [i16])
         if from.len() - at < 2 {
             return;
         }
-        to[i] = signed::of_bits16(number::half(from[at], from[at + 1]));
+        to[i] = signed::of_bits16(number::two(from, at));
         i += 1;
         at += 2;
     }
@@ -40,7 +40,7 @@ pub fn words(from: &[u8], to: &mut [u32])
         if from.len() - at < 4 {
             return;
         }
-        to[i] = number::whole(from[at], from[at + 1], from[at + 2], from[at + 3]);
+        to[i] = number::four(from, at);
         i += 1;
         at += 4;
     }
@@ -55,8 +55,7 @@ pub fn signed_words(from: &[u8], to: &mut [i32])
         if from.len() - at < 4 {
             return;
         }
-        let bits = number::whole(from[at], from[at + 1], from[at + 2], from[at + 3]);
-        to[i] = signed::of_bits32(bits);
+        to[i] = signed::of_bits32(number::four(from, at));
         i += 1;
         at += 4;
     }

@@ -8,7 +8,7 @@ use mir.Val.{toZ}
 use borrow.Author.Needs.{needs}
 use Rattle.laws.specs.Sizes.{thru}
 use Rattle.reader.specs.Fill.{fill, halfAt}
-use Rattle.reader.specs.FillLaws.{soFar, fill-turn, fill-short, fill-done, half-at}
+use Rattle.reader.specs.FillLaws.{soFar, fill-turn, fill-short, fill-done}
 use Rattle.reader.proofs.tables.halves.Statement.{statement}
 use Rattle.reader.proofs.tables.halves.Tie as tie
 
@@ -30,23 +30,14 @@ same-length c = search needs
 returns : tie.Need-returns Inv-loop μ-loop
 returns c = let l = c .before .before .loop in sym (fill-short 2 halfAt _ (l .at) (l .to) (l .i) (c .if1 .taken)) ∙ l .inv .1 .1 .1
 
-shared-slice-read-half : tie.Need-shared-slice-read-half Inv-loop μ-loop
-shared-slice-read-half c = search needs
-
-add-half : tie.Need-add-half Inv-loop μ-loop
-add-half c = search needs
-
-shared-slice-read-half-2 : tie.Need-shared-slice-read-half-2 Inv-loop μ-loop
-shared-slice-read-half-2 c = search needs
-
-half-requires : tie.Need-half-requires Inv-loop μ-loop
-half-requires c κs = search needs
+two-requires : tie.Need-two-requires Inv-loop μ-loop
+two-requires c κs = search needs
 
 of-bits16-requires : tie.Need-of-bits16-requires Inv-loop μ-loop
 of-bits16-requires c κs = search needs
 
-mul-t7 : tie.Need-mul-t7 Inv-loop μ-loop
-mul-t7 c = search needs
+mul-t5 : tie.Need-mul-t5 Inv-loop μ-loop
+mul-t5 c = search needs
 
 slice-set-from-to : tie.Need-slice-set-from-to Inv-loop μ-loop
 slice-set-from-to c = search needs
@@ -61,14 +52,15 @@ loop-less : tie.Need-loop-less Inv-loop μ-loop
 loop-less c = omega arith
 
 loop-again : tie.Need-loop-again Inv-loop μ-loop
+unfolding halfAt
 loop-again c =
-    let l = c .before .before .before .before .before .before .loop in (
+    let l = c .before .before .before .before .loop in (
       simp length-set (omega arith),
       (
         simp length-set (omega arith),
         (
           omega arith,
-          fill-turn 2 halfAt _ (l .at) (l .to) (l .i) _ (omega arith) (omega arith) (thru w16 _ (record { sfits = c .of-bits16 .ok }) ∙ (c .of-bits16 .ensures ∙ (ap (toZ w16) (c .before .half .ensures) ∙ half-at (c .before .before .before .before .before .before .before .before .args .from .now) (l .at)))) ∙ l .inv .1 .1 .1,
+          fill-turn 2 halfAt _ (l .at) (l .to) (l .i) _ (omega arith) (omega arith) (thru w16 _ (record { sfits = c .of-bits16 .ok }) ∙ (c .of-bits16 .ensures ∙ ap (toZ w16) (c .before .two .ensures))) ∙ l .inv .1 .1 .1,
         ),
       ),
     )
@@ -89,12 +81,9 @@ halves-spec =
     sub-if1
     same-length
     returns
-    shared-slice-read-half
-    add-half
-    shared-slice-read-half-2
-    half-requires
+    two-requires
     of-bits16-requires
-    mul-t7
+    mul-t5
     slice-set-from-to
     add-i
     add-at

@@ -7,8 +7,8 @@ use mir.Syntax.{w32}
 use mir.Val.{toZ}
 use borrow.Author.Needs.{needs}
 use Rattle.laws.specs.Sizes.{thru}
-use Rattle.reader.specs.Fill.{fill, signedWordAt}
-use Rattle.reader.specs.FillLaws.{soFar, fill-turn, fill-short, fill-done, signed-word-at}
+use Rattle.reader.specs.Fill.{fill, wordAt, signedWordAt}
+use Rattle.reader.specs.FillLaws.{soFar, fill-turn, fill-short, fill-done}
 use Rattle.reader.proofs.tables.signed_words.Statement.{statement}
 use Rattle.reader.proofs.tables.signed_words.Tie as tie
 
@@ -30,35 +30,14 @@ same-length c = search needs
 returns : tie.Need-returns Inv-loop μ-loop
 returns c = let l = c .before .before .loop in sym (fill-short 4 signedWordAt _ (l .at) (l .to) (l .i) (c .if1 .taken)) ∙ l .inv .1 .1 .1
 
-shared-slice-read-whole : tie.Need-shared-slice-read-whole Inv-loop μ-loop
-shared-slice-read-whole c = search needs
-
-add-whole : tie.Need-add-whole Inv-loop μ-loop
-add-whole c = search needs
-
-shared-slice-read-whole-2 : tie.Need-shared-slice-read-whole-2 Inv-loop μ-loop
-shared-slice-read-whole-2 c = search needs
-
-add-whole-2 : tie.Need-add-whole-2 Inv-loop μ-loop
-add-whole-2 c = search needs
-
-shared-slice-read-whole-3 : tie.Need-shared-slice-read-whole-3 Inv-loop μ-loop
-shared-slice-read-whole-3 c = search needs
-
-add-whole-3 : tie.Need-add-whole-3 Inv-loop μ-loop
-add-whole-3 c = search needs
-
-shared-slice-read-whole-4 : tie.Need-shared-slice-read-whole-4 Inv-loop μ-loop
-shared-slice-read-whole-4 c = search needs
-
-whole-requires : tie.Need-whole-requires Inv-loop μ-loop
-whole-requires c κs = search needs
+four-requires : tie.Need-four-requires Inv-loop μ-loop
+four-requires c κs = search needs
 
 of-bits32-requires : tie.Need-of-bits32-requires Inv-loop μ-loop
 of-bits32-requires c κs = search needs
 
-mul-t6 : tie.Need-mul-t6 Inv-loop μ-loop
-mul-t6 c = search needs
+mul-t5 : tie.Need-mul-t5 Inv-loop μ-loop
+mul-t5 c = search needs
 
 slice-set-from-to : tie.Need-slice-set-from-to Inv-loop μ-loop
 slice-set-from-to c = search needs
@@ -73,14 +52,15 @@ loop-less : tie.Need-loop-less Inv-loop μ-loop
 loop-less c = omega arith
 
 loop-again : tie.Need-loop-again Inv-loop μ-loop
+unfolding signedWordAt wordAt
 loop-again c =
-    let l = c .before .before .before .before .before .before .before .before .loop in (
+    let l = c .before .before .before .before .loop in (
       simp length-set (omega arith),
       (
         simp length-set (omega arith),
         (
           omega arith,
-          fill-turn 4 signedWordAt _ (l .at) (l .to) (l .i) _ (omega arith) (omega arith) (thru w32 _ (record { sfits = c .of-bits32 .ok }) ∙ (c .of-bits32 .ensures ∙ (ap (toZ w32) (c .before .whole .ensures) ∙ signed-word-at (c .before .before .before .before .before .before .before .before .before .before .args .from .now) (l .at)))) ∙ l .inv .1 .1 .1,
+          fill-turn 4 signedWordAt _ (l .at) (l .to) (l .i) _ (omega arith) (omega arith) (thru w32 _ (record { sfits = c .of-bits32 .ok }) ∙ (c .of-bits32 .ensures ∙ ap (toZ w32) (c .before .four .ensures))) ∙ l .inv .1 .1 .1,
         ),
       ),
     )
@@ -101,16 +81,9 @@ signed-words-spec =
     sub-if1
     same-length
     returns
-    shared-slice-read-whole
-    add-whole
-    shared-slice-read-whole-2
-    add-whole-2
-    shared-slice-read-whole-3
-    add-whole-3
-    shared-slice-read-whole-4
-    whole-requires
+    four-requires
     of-bits32-requires
-    mul-t6
+    mul-t5
     slice-set-from-to
     add-i
     add-at

@@ -5,7 +5,7 @@ use native.Mathlib.Omega.{arith}
 use lib.ListN.{length, length-set}
 use borrow.Author.Needs.{needs}
 use Rattle.reader.specs.Fill.{fill, wordAt}
-use Rattle.reader.specs.FillLaws.{soFar, fill-turn, fill-short, fill-done, word-at}
+use Rattle.reader.specs.FillLaws.{soFar, fill-turn, fill-short, fill-done}
 use Rattle.reader.proofs.tables.words.Statement.{statement}
 use Rattle.reader.proofs.tables.words.Tie as tie
 
@@ -27,29 +27,8 @@ same-length c = search needs
 returns : tie.Need-returns Inv-loop μ-loop
 returns c = let l = c .before .before .loop in sym (fill-short 4 wordAt _ (l .at) (l .to) (l .i) (c .if1 .taken)) ∙ l .inv .1 .1 .1
 
-shared-slice-read-whole : tie.Need-shared-slice-read-whole Inv-loop μ-loop
-shared-slice-read-whole c = search needs
-
-add-whole : tie.Need-add-whole Inv-loop μ-loop
-add-whole c = search needs
-
-shared-slice-read-whole-2 : tie.Need-shared-slice-read-whole-2 Inv-loop μ-loop
-shared-slice-read-whole-2 c = search needs
-
-add-whole-2 : tie.Need-add-whole-2 Inv-loop μ-loop
-add-whole-2 c = search needs
-
-shared-slice-read-whole-3 : tie.Need-shared-slice-read-whole-3 Inv-loop μ-loop
-shared-slice-read-whole-3 c = search needs
-
-add-whole-3 : tie.Need-add-whole-3 Inv-loop μ-loop
-add-whole-3 c = search needs
-
-shared-slice-read-whole-4 : tie.Need-shared-slice-read-whole-4 Inv-loop μ-loop
-shared-slice-read-whole-4 c = search needs
-
-whole-requires : tie.Need-whole-requires Inv-loop μ-loop
-whole-requires c κs = search needs
+four-requires : tie.Need-four-requires Inv-loop μ-loop
+four-requires c κs = search needs
 
 mul-to : tie.Need-mul-to Inv-loop μ-loop
 mul-to c = search needs
@@ -67,14 +46,15 @@ loop-less : tie.Need-loop-less Inv-loop μ-loop
 loop-less c = omega arith
 
 loop-again : tie.Need-loop-again Inv-loop μ-loop
+unfolding wordAt
 loop-again c =
-    let l = c .before .before .before .before .before .before .before .loop in (
+    let l = c .before .before .before .loop in (
       simp length-set (omega arith),
       (
         simp length-set (omega arith),
         (
           omega arith,
-          fill-turn 4 wordAt _ (l .at) (l .to) (l .i) _ (omega arith) (omega arith) (c .whole .ensures ∙ word-at (c .before .before .before .before .before .before .before .before .before .before .args .from .now) (l .at)) ∙ l .inv .1 .1 .1,
+          fill-turn 4 wordAt _ (l .at) (l .to) (l .i) _ (omega arith) (omega arith) (c .four .ensures) ∙ l .inv .1 .1 .1,
         ),
       ),
     )
@@ -95,14 +75,7 @@ words-spec =
     sub-if1
     same-length
     returns
-    shared-slice-read-whole
-    add-whole
-    shared-slice-read-whole-2
-    add-whole-2
-    shared-slice-read-whole-3
-    add-whole-3
-    shared-slice-read-whole-4
-    whole-requires
+    four-requires
     mul-to
     slice-write-to
     add-i
