@@ -1,6 +1,6 @@
 // The words of the format.
 ghost use mathlib.Core.Path.{_≡_};
-ghost use Rattle.lines.specs.Names.{placeName, stateName, outName, koreanName, cjName, caseName};
+ghost use Rattle.lines.specs.Names.{stateName, outName, koreanName, cjName, caseName};
 ghost use Rattle.scribe.specs.Page.{page, onto};
 use arabic_french::LatinCaseState;
 use big5::LatinCj;
@@ -8,22 +8,6 @@ use euckr::LatinKorean;
 use iso2022jp::DecoderState;
 use iso2022jp::OutputState;
 use scribe::page;
-
-// The name of a place by its number; the last one's for any above.
-pub(crate) fn place(out: &mut [u8], at: usize, k: usize) -> usize
-    ensures { λ r. ⌜ page (now (out .exit)) r ≡ onto (page (now (out .entry)) at) (placeName k) ⌝ }
-{
-    match k {
-        0 => page::word(out, at, b"utf-8"),
-        1 => page::word(out, at, b"iso-2022-jp"),
-        2 => page::word(out, at, b"euc-kr"),
-        3 => page::word(out, at, b"big5"),
-        4 => page::word(out, at, b"caseless"),
-        5 => page::word(out, at, b"logical"),
-        6 => page::word(out, at, b"visual"),
-        _ => page::word(out, at, b"arabic-french"),
-    }
-}
 
 pub(crate) fn decoder_state(out: &mut [u8], at: usize, s: DecoderState) -> usize
     ensures { λ r. ⌜ page (now (out .exit)) r ≡ onto (page (now (out .entry)) at) (stateName s) ⌝ }

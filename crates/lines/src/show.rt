@@ -6,12 +6,12 @@ ghost use Rattle.lines.specs.Show.{newline, savedText, replyText, frontT
 ghost use Rattle.scribe.specs.Page.{page, onto};
 ghost use Rattle.scribe.specs.Text.{ascii};
 use crate::fields;
-use crate::names;
 use context::Context;
 use kinds::machine::Machine;
 use places::place::Place;
 use places::place::Score;
 use places::place::Slate;
+use scribe::names;
 use scribe::page;
 use state::State;
 use state::front::Front;

@@ -1,3 +1,5 @@
+pub mod Names
+pub mod NamesLaws
 pub mod Page
 pub mod PageLaws
 pub mod Text

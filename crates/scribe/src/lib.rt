@@ -1,2 +1,3 @@
-// The replay format's alphabet: texts and numbers, written into a buffer.
+// The replay format's alphabet: texts, numbers and the places' names, written into a buffer.
+pub mod names;
 pub mod page;

@@ -1,11 +1,11 @@
 -- `place` meets its contract. Assumes nothing.
 use mathlib.Core.Path.{ap, _∙_}
 use Rattle.scribe.specs.Page.{onto}
-use Rattle.lines.specs.Names.{placeName}
-use Rattle.lines.specs.ShowLaws.{last-name}
+use Rattle.scribe.specs.Names.{placeName}
+use Rattle.scribe.specs.NamesLaws.{last-name}
 use borrow.Author.Needs.{needs}
-use Rattle.lines.proofs.names.place.Statement.{statement}
-use Rattle.lines.proofs.names.place.Tie as tie
+use Rattle.scribe.proofs.names.place.Statement.{statement}
+use Rattle.scribe.proofs.names.place.Tie as tie
 
 slice-aggregate-word : tie.Need-slice-aggregate-word
 slice-aggregate-word c = search needs
