@@ -14,7 +14,7 @@ use lib.Seq.{take-nil}
 use borrow.Author.Tests.{leb-true}
 use Rattle.io.specs.Digits.{glyph}
 use Rattle.laws.specs.Tests.{either}
-use Rattle.scribe.specs.Names.{placeName}
+use Rattle.names.specs.Names.{placeName}
 use Rattle.scribe.specs.Page.{page, onto}
 use Rattle.scribe.specs.PageLaws.{written}
 use Rattle.scribe.specs.Text.{ascii, flagOf, hexOf, decimalIn, decimalOf, signedOf}

@@ -1,7 +1,7 @@
 -- Whole lines as text: a reply's, and the ten of a state. Assumes nothing.
 use mathlib.Core.List.{List, [], _∷_, _++_}
 use Prim.Native.Nat.{ℕ}
-use Rattle.scribe.specs.Names.{placeName}
+use Rattle.names.specs.Names.{placeName}
 use Rattle.scribe.specs.Text.{ascii, flagOf, hexOf, decimalOf, signedOf}
 use Rattle.context.specs.Context.{bytesOf}
 use Rattle.kinds.specs.Kinds.{kindOf}

@@ -4,8 +4,6 @@ use mathlib.Core.List.{List}
 use Prim.Native.Nat.{ℕ}
 use Rattle.laws.specs.Determined.{Determined}
 use Rattle.scribe.specs.PageLaws.{alike}
-use Rattle.scribe.proofs.names.place.Kinds as place-kinds
-use Rattle.scribe.proofs.names.place.Reads as place-reads
 use Rattle.scribe.proofs.page.byte.Kinds as byte-kinds
 use Rattle.scribe.proofs.page.byte.Reads as byte-reads
 use Rattle.scribe.proofs.page.word.Kinds as word-kinds
@@ -18,9 +16,6 @@ use Rattle.scribe.proofs.page.decimal.Kinds as decimal-kinds
 use Rattle.scribe.proofs.page.decimal.Reads as decimal-reads
 use Rattle.scribe.proofs.page.signed.Kinds as signed-kinds
 use Rattle.scribe.proofs.page.signed.Reads as signed-reads
-
-pub place : Determined 1 place-kinds.ps place-kinds.r place-reads.Asked place-reads.Learnt
-place = record { total = λ κs a. tt; one = λ κs a z z′ w w′ p q. let s = alike p q in (s .0, ap (λ (l : List ℕ). (l, (tt, (tt, tt)))) (s .1)) }
 
 pub byte : Determined 1 byte-kinds.ps byte-kinds.r byte-reads.Asked byte-reads.Learnt
 byte = record { total = λ κs a. tt; one = λ κs a z z′ w w′ p q. let s = alike p q in (s .0, ap (λ (l : List ℕ). (l, (tt, (tt, tt)))) (s .1)) }

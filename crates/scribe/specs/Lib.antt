@@ -1,5 +1,3 @@
-pub mod Names
-pub mod NamesLaws
 pub mod Page
 pub mod PageLaws
 pub mod Text

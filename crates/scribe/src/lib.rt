@@ -1,3 +1,2 @@
-// The replay format's alphabet: texts, numbers and the places' names, written into a buffer.
-pub mod names;
+// The replay format's alphabet: texts and numbers, written into a buffer.
 pub mod page;

@@ -2,10 +2,10 @@
 use mathlib.Core.Path.{sym}
 use native.Mathlib.Omega.{arith}
 use lib.Seq.{length-take-le}
 use Rattle.scribe.specs.PageLaws.{reach}
 use borrow.Author.Needs.{needs}
-use Rattle.scribe.proofs.names.print_place.Statement.{statement}
-use Rattle.scribe.proofs.names.print_place.Tie as tie
+use Rattle.names.proofs.print_place.Statement.{statement}
+use Rattle.names.proofs.print_place.Tie as tie
 
 slice-aggregate-place : tie.Need-slice-aggregate-place
 slice-aggregate-place c = search needs

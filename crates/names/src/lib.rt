@@ -1,9 +1,9 @@
 // The places' names, as document 01 spells them.
 ghost use mathlib.Core.Path.{_≡_};
-ghost use Rattle.scribe.specs.Names.{placeName};
+ghost use Rattle.names.specs.Names.{placeName};
 ghost use Rattle.scribe.specs.Page.{page, onto};
-use crate::page;
 use libc::STDOUT_FILENO;
+use scribe::page;
 
 // The name of a place by its number; the last one's for any above.
 pub fn place(out: &mut [u8], at: usize, k: usize) -> usize

@@ -1,11 +1,11 @@
 -- `place` meets its contract. Assumes nothing.
 use mathlib.Core.Path.{ap, _∙_}
 use Rattle.scribe.specs.Page.{onto}
-use Rattle.scribe.specs.Names.{placeName}
-use Rattle.scribe.specs.NamesLaws.{last-name}
+use Rattle.names.specs.Names.{placeName}
+use Rattle.names.specs.NamesLaws.{last-name}
 use borrow.Author.Needs.{needs}
-use Rattle.scribe.proofs.names.place.Statement.{statement}
-use Rattle.scribe.proofs.names.place.Tie as tie
+use Rattle.names.proofs.place.Statement.{statement}
+use Rattle.names.proofs.place.Tie as tie
 
 slice-aggregate-word : tie.Need-slice-aggregate-word
 slice-aggregate-word c = search needs

@@ -1,8 +1,8 @@
 -- The last name, whatever the number above. Assumes nothing.
 use mathlib.Core.Path.{_≡_, refl}
 use Prim.Native.Nat.{ℕ, zero, suc}
-use Rattle.scribe.specs.Names.{placeName}
+use Rattle.names.specs.Names.{placeName}
 use Rattle.scribe.specs.Text.{ascii}
 
 pub last-name : (k : ℕ) → (k ≡ 0 → ⊥) → (k ≡ 1 → ⊥) → (k ≡ 2 → ⊥) → (k ≡ 3 → ⊥) → (k ≡ 4 → ⊥) → (k ≡ 5 → ⊥) → (k ≡ 6 → ⊥) → ascii "arabic-french" ≡ placeName k
 unfolding placeName
