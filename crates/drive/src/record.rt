@@ -277,16 +277,18 @@ fn low(n: u64) -> u8 {
 
 // The digest with a number's eight bytes, the least first.
 fn with_number(d: Digest, n: u64) -> Digest {
-    d.with(&[
-        low(n),
-        low(n / 0x100),
-        low(n / 0x1_0000),
-        low(n / 0x100_0000),
-        low(n / 0x1_0000_0000),
-        low(n / 0x100_0000_0000),
-        low(n / 0x1_0000_0000_0000),
-        low(n / 0x100_0000_0000_0000),
-    ])
+    d.with(
+        &[
+            low(n),
+            low(n / 0x100),
+            low(n / 0x1_0000),
+            low(n / 0x100_0000),
+            low(n / 0x1_0000_0000),
+            low(n / 0x100_0000_0000),
+            low(n / 0x1_0000_0000_0000),
+            low(n / 0x100_0000_0000_0000),
+        ],
+    )
 }
 
 fn live(d: Digest, machine: Machine, score: i64) -> Digest {
@@ -391,5 +393,8 @@ pub(crate) fn place_of(place: u8, bytes: &[u8; 40]) -> Place {
         number::eight(bytes, 24),
         number::eight(bytes, 32),
     );
-    Place::Live(machine_of(place, f), signed::of_bits64(number::eight(bytes, 8)))
+    Place::Live(
+        machine_of(place, f),
+        signed::of_bits64(number::eight(bytes, 8)),
+    )
 }

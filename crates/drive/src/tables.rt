@@ -70,7 +70,12 @@ fn read_place(k: usize, classes: &mut [u8], marks: &mut [u8], scores: &mut [i16]
     requires { ⌜ k < 4 ⌝ }
     requires { ⌜ (length (now classes) ≡ 4 * classCount) × ((length (now marks) ≡ 4 * markCount) × (length (now scores) ≡ 4 * pairCount + extraCount)) ⌝ }
 {
-    if io::read_full(STDIN_FILENO, &mut classes[CLASSES * k..CLASSES * k + CLASSES]) != CLASSES {
+    if io::read_full(
+        STDIN_FILENO,
+        &mut classes[CLASSES * k..CLASSES * k + CLASSES],
+    )
+        != CLASSES
+    {
         return false;
     }
     if io::read_full(STDIN_FILENO, &mut marks[MARKS * k..MARKS * k + MARKS]) != MARKS {

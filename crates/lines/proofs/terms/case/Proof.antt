@@ -1,8 +1,8 @@
--- `korean` meets its contract. Assumes nothing.
-use Rattle.lines.specs.Names.{koreanName}
+-- `case` meets its contract. Assumes nothing.
+use Rattle.lines.specs.Names.{caseName}
 use borrow.Author.Needs.{needs}
-use Rattle.lines.proofs.names.korean.Statement.{statement}
-use Rattle.lines.proofs.names.korean.Tie as tie
+use Rattle.lines.proofs.terms.case.Statement.{statement}
+use Rattle.lines.proofs.terms.case.Tie as tie
 
 enum-told : tie.Need-enum-told
 enum-told c = search needs
@@ -44,32 +44,32 @@ same-length : tie.Need-same-length
 same-length c = search needs
 
 returns : tie.Need-returns
-unfolding koreanName
+unfolding caseName
 returns c = rw (c .before .before .before .before .before .enum-told .given .1) (c .before .before .word .ensures)
 
 same-length-2 : tie.Need-same-length-2
 same-length-2 c = search needs
 
 returns-2 : tie.Need-returns-2
-unfolding koreanName
+unfolding caseName
 returns-2 c = rw (c .before .before .before .before .before .enum-told2 .given .1) (c .before .before .word2 .ensures)
 
 same-length-3 : tie.Need-same-length-3
 same-length-3 c = search needs
 
 returns-3 : tie.Need-returns-3
-unfolding koreanName
+unfolding caseName
 returns-3 c = rw (c .before .before .before .before .before .enum-told3 .given .1) (c .before .before .word3 .ensures)
 
 same-length-4 : tie.Need-same-length-4
 same-length-4 c = search needs
 
 returns-4 : tie.Need-returns-4
-unfolding koreanName
+unfolding caseName
 returns-4 c = rw (c .before .before .before .before .before .enum-told4 .given .1) (c .before .before .word4 .ensures)
 
-pub korean-spec : {M : Type 1} → statement M
-korean-spec =
+pub case-spec : {M : Type 1} → statement M
+case-spec =
     tie.close
     (tie.spec
     enum-told

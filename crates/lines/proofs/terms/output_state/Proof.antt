@@ -1,8 +1,8 @@
 -- `output_state` meets its contract. Assumes nothing.
 use Rattle.lines.specs.Names.{outName}
 use borrow.Author.Needs.{needs}
-use Rattle.lines.proofs.names.output_state.Statement.{statement}
-use Rattle.lines.proofs.names.output_state.Tie as tie
+use Rattle.lines.proofs.terms.output_state.Statement.{statement}
+use Rattle.lines.proofs.terms.output_state.Tie as tie
 
 enum-told : tie.Need-enum-told
 enum-told c = search needs

@@ -1,8 +1,8 @@
 -- `decoder_state` meets its contract. Assumes nothing.
 use Rattle.lines.specs.Names.{stateName}
 use borrow.Author.Needs.{needs}
-use Rattle.lines.proofs.names.decoder_state.Statement.{statement}
-use Rattle.lines.proofs.names.decoder_state.Tie as tie
+use Rattle.lines.proofs.terms.decoder_state.Statement.{statement}
+use Rattle.lines.proofs.terms.decoder_state.Tie as tie
 
 enum-told : tie.Need-enum-told
 enum-told c = search needs
