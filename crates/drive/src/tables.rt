@@ -13,7 +13,7 @@ use lengths::MARKS;
 use lengths::PAIRS;
 use lengths::WEIGHTS;
 use libc::STDIN_FILENO;
-use reader::tables;
+use reader::entries;
 
 // Entries of the arrays that hold the tables of several places.
 pub(crate) const SCORES: usize = 4 * PAIRS + EXTRAS;
@@ -92,7 +92,7 @@ fn read_halves(len: usize, to: &mut [i16]) -> bool
     if input::part(&mut bytes, len) < len {
         return false;
     }
-    tables::halves(&bytes, to);
+    entries::halves(&bytes, to);
     true
 }
 
@@ -101,7 +101,7 @@ fn read_weights(weights: &mut [i32]) -> bool {
     if io::read_full(STDIN_FILENO, &mut bytes) != 4 * WEIGHTS {
         return false;
     }
-    tables::signed_words(&bytes, weights);
+    entries::signed_words(&bytes, weights);
     true
 }
 
@@ -110,6 +110,6 @@ fn read_indexes(indexes: &mut [u32]) -> bool {
     if io::read_full(STDIN_FILENO, &mut bytes) != 4 * INDEXES {
         return false;
     }
-    tables::words(&bytes, indexes);
+    entries::words(&bytes, indexes);
     true
 }

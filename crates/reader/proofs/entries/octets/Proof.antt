@@ -6,8 +6,8 @@ use lib.ListN.{length, length-set}
 use borrow.Author.Needs.{needs}
 use Rattle.reader.specs.Fill.{fill, octetAt}
 use Rattle.reader.specs.FillLaws.{soFar, fill-turn, fill-short, fill-done, octet-at}
-use Rattle.reader.proofs.tables.octets.Statement.{statement}
-use Rattle.reader.proofs.tables.octets.Tie as tie
+use Rattle.reader.proofs.entries.octets.Statement.{statement}
+use Rattle.reader.proofs.entries.octets.Tie as tie
 
 abbrev Inv-loop : tie.InvT-loop
 Inv-loop from to₀ i₀ to i = (i ≤ length to) × ((length to ≡ length to₀) × ((i ≤ length from) × (soFar 1 octetAt from i to i ≡ fill 1 octetAt from to₀)))

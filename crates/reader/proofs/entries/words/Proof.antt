@@ -6,8 +6,8 @@ use lib.ListN.{length, length-set}
 use borrow.Author.Needs.{needs}
 use Rattle.reader.specs.Fill.{fill, wordAt}
 use Rattle.reader.specs.FillLaws.{soFar, fill-turn, fill-short, fill-done}
-use Rattle.reader.proofs.tables.words.Statement.{statement}
-use Rattle.reader.proofs.tables.words.Tie as tie
+use Rattle.reader.proofs.entries.words.Statement.{statement}
+use Rattle.reader.proofs.entries.words.Tie as tie
 
 abbrev Inv-loop : tie.InvT-loop
 Inv-loop from to₀ i₀ at₀ to i at = (i ≤ length to) × ((length to ≡ length to₀) × ((at ≤ length from) × (soFar 4 wordAt from at to i ≡ fill 4 wordAt from to₀)))
