@@ -2,6 +2,7 @@
 // over the same bytes. Each input is put together in the file `input` first.
 ghost use Prim.Native.Nat.{_≤_};
 ghost use lib.ListN.{length};
+use reader::number;
 
 // Up to `most` bytes of a file, after what the descriptor has.
 fn append(to: i32, path: &[u8], most: usize) {
@@ -60,19 +61,13 @@ fn write_part(to: i32, bytes: &[u8], count: usize)
     io::write_all(to, &bytes[..count]);
 }
 
-fn wide(b: u8) -> usize
-    ensures { λ r. ⌜ r ≤ 255 ⌝ }
-{
-    b as usize
-}
-
 // The next short case, its length before it. Answers whether there was one.
 fn play_next(from: i32, tables: &[u8]) -> bool {
     let mut head = [0u8; 4];
     if io::read_full(from, &mut head) < 4 {
         return false;
     }
-    let count = wide(head[0]) + 256 * wide(head[1]) + 65_536 * wide(head[2]);
+    let count = number::four(&head, 0) as usize;
     if 131_072 < count {
         return false;
     }

@@ -1,8 +1,13 @@
 // Standard input, piece by piece.
-ghost use Prim.Native.Nat.{_≤_};
+ghost use Prim.Native.Nat.{_<_, _≤_};
 ghost use lib.ListN.{length};
-use crate::number;
 use libc::STDIN_FILENO;
+
+fn wide(b: u8) -> usize
+    ensures { λ r. ⌜ r < 256 ⌝ }
+{
+    b as usize
+}
 
 // The next byte of the input, or 256 at its end.
 pub(crate) fn byte() -> usize {
@@ -10,7 +15,7 @@ pub(crate) fn byte() -> usize {
     if io::read_full(STDIN_FILENO, &mut one) != 1 {
         return 256;
     }
-    number::index(one[0])
+    wide(one[0])
 }
 
 // The next bytes, into the beginning of a buffer: how many there were.

@@ -1,20 +1,28 @@
 // Drives one machine alone and prints a digest of its records, or its last record in words: what `oracle drive --digest`
 // prints for the same input (oracle/README.md has the format).
-mod digest;
 mod input;
-mod number;
 mod place;
 mod record;
 mod sheet;
 mod tables;
 
 ghost use mathlib.Core.Path.{_≡_};
-ghost use Prim.Native.Nat.{_<_, _≤_};
+ghost use Prim.Native.Nat.{_+_, _*_, _<_, _≤_};
 ghost use lib.ListN.{length};
+ghost use Rattle.lengths.specs.Lengths.{classCount, markCount, pairCount, big5Count, eucKrCount, jisCount, extraCount};
 use digest::Digest;
+use lengths::BIG5;
+use lengths::CLASSES;
+use lengths::EUC_KR;
+use lengths::MARKS;
+use lengths::PAIRS;
+use lengths::WEIGHTS;
 use libc::STDIN_FILENO;
 use libc::STDOUT_FILENO;
 use place::Place;
+use reader::number;
+use tables::INDEXES;
+use tables::SCORES;
 
 // Every two-byte stream from the record, closed.
 fn all_pairs(
@@ -189,11 +197,10 @@ fn read_stream(
     if io::read_full(STDIN_FILENO, &mut size) != 4 {
         return false;
     }
-    let n = number::four(&size, 0);
-    if 65536 < n {
+    let len = number::four(&size, 0) as usize;
+    if 65536 < len {
         return false;
     }
-    let len = n as usize;
     if len < 256 {
         return read_short(
             start,
@@ -253,11 +260,11 @@ fn single_case(
     indexes: &[u32],
 ) -> bool
     requires { ⌜ k < 4 ⌝ }
-    requires { ⌜ (length (now classes) ≡ 1024) × ((length (now marks) ≡ 512) × (length (now scores) ≡ 76708)) ⌝ }
+    requires { ⌜ (length (now classes) ≡ 4 * classCount) × ((length (now marks) ≡ 4 * markCount) × (length (now scores) ≡ 4 * pairCount + extraCount)) ⌝ }
 {
-    let c = &classes[256 * k..256 * k + 256];
-    let m = &marks[128 * k..128 * k + 128];
-    let s = &scores[16384 * k..16384 * k + 16384];
+    let c = &classes[CLASSES * k..CLASSES * k + CLASSES];
+    let m = &marks[MARKS * k..MARKS * k + MARKS];
+    let s = &scores[PAIRS * k..PAIRS * k + PAIRS];
     case(command, (k + 4) as u8, c, m, s, weights, indexes)
 }
 
@@ -271,10 +278,10 @@ fn decoder_case(
     weights: &[i32],
     indexes: &[u32],
 ) -> bool
-    requires { ⌜ (length (now scores) ≡ 76708) × (length (now indexes) ≡ 52558) ⌝ }
+    requires { ⌜ (length (now scores) ≡ 4 * pairCount + extraCount) × (length (now indexes) ≡ big5Count + eucKrCount + jisCount) ⌝ }
 {
     if place == 2 {
-        let extras = &scores[65536..];
+        let extras = &scores[4 * PAIRS..];
         return case(
             command,
             2,
@@ -282,7 +289,7 @@ fn decoder_case(
             marks,
             extras,
             weights,
-            &indexes[19782..43722],
+            &indexes[BIG5..BIG5 + EUC_KR],
         );
     }
     if place == 3 {
@@ -293,7 +300,7 @@ fn decoder_case(
             marks,
             scores,
             weights,
-            &indexes[0..19782],
+            &indexes[0..BIG5],
         );
     }
     let number = if place == 0 { 0 } else { 1 };
@@ -304,7 +311,7 @@ fn decoder_case(
         marks,
         scores,
         weights,
-        &indexes[43722..],
+        &indexes[BIG5 + EUC_KR..],
     )
 }
 
@@ -339,7 +346,7 @@ fn turn(
     weights: &[i32],
     indexes: &[u32],
 ) -> bool
-    requires { ⌜ (length (now classes) ≡ 1024) × ((length (now marks) ≡ 512) × ((length (now scores) ≡ 76708) × (length (now indexes) ≡ 52558))) ⌝ }
+    requires { ⌜ (length (now classes) ≡ 4 * classCount) × ((length (now marks) ≡ 4 * markCount) × ((length (now scores) ≡ 4 * pairCount + extraCount) × (length (now indexes) ≡ big5Count + eucKrCount + jisCount))) ⌝ }
 {
     if command == 0x4E {
         return name();
@@ -364,7 +371,7 @@ fn turn(
 
 // The cases until the end of the input or new lent data; answers whether that follows.
 fn cases(classes: &[u8], marks: &[u8], scores: &[i16], weights: &[i32], indexes: &[u32]) -> bool
-    requires { ⌜ (length (now classes) ≡ 1024) × ((length (now marks) ≡ 512) × ((length (now scores) ≡ 76708) × (length (now indexes) ≡ 52558))) ⌝ }
+    requires { ⌜ (length (now classes) ≡ 4 * classCount) × ((length (now marks) ≡ 4 * markCount) × ((length (now scores) ≡ 4 * pairCount + extraCount) × (length (now indexes) ≡ big5Count + eucKrCount + jisCount))) ⌝ }
 {
     let mut count: usize = 0;
     while count < 10000000 {
@@ -386,11 +393,11 @@ fn cases(classes: &[u8], marks: &[u8], scores: &[i16], weights: &[i32], indexes:
 
 // Lent data and the cases over it. Answers whether more lent data follows.
 fn block() -> bool {
-    let mut classes = [0u8; 1024];
-    let mut marks = [0u8; 512];
-    let mut scores = [0i16; 76708];
-    let mut weights = [0i32; 17];
-    let mut indexes = [0u32; 52558];
+    let mut classes = [0u8; 4 * CLASSES];
+    let mut marks = [0u8; 4 * MARKS];
+    let mut scores = [0i16; SCORES];
+    let mut weights = [0i32; WEIGHTS];
+    let mut indexes = [0u32; INDEXES];
     if !tables::read_all(
         &mut classes,
         &mut marks,

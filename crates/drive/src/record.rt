@@ -1,6 +1,4 @@
 // A place's record of 40 bytes, as oracle/README.md lays it out: read from a case, and added to a digest.
-use crate::digest::Digest;
-use crate::number;
 use crate::place::Machine;
 use crate::place::Place;
 use arabic_french::ArabicFrench;
@@ -8,6 +6,7 @@ use arabic_french::LatinCaseState;
 use big5::Big5;
 use big5::LatinCj;
 use caseless::Caseless;
+use digest::Digest;
 use euckr::EucKr;
 use euckr::LatinKorean;
 use iso2022jp::DecoderState;
@@ -15,6 +14,7 @@ use iso2022jp::Iso2022Jp;
 use iso2022jp::OutputState;
 use logical::Logical;
 use pairs::Held;
+use reader::number;
 use utf8::Utf8;
 use visual::Visual;
 
@@ -271,29 +271,39 @@ fn fields_of(m: Machine) -> Fields {
     }
 }
 
-// The digest with 40 bytes, each eight of them this number.
-fn filled(d: Digest, n: u64) -> Digest {
-    d.with_number(n)
-        .with_number(n)
-        .with_number(n)
-        .with_number(n)
-        .with_number(n)
+fn low(n: u64) -> u8 {
+    (n % 256) as u8
+}
+
+// The digest with a number's eight bytes, the least first.
+fn with_number(d: Digest, n: u64) -> Digest {
+    d.with(
+        &[
+            low(n),
+            low(n / 0x100),
+            low(n / 0x1_0000),
+            low(n / 0x100_0000),
+            low(n / 0x1_0000_0000),
+            low(n / 0x100_0000_0000),
+            low(n / 0x1_0000_0000_0000),
+            low(n / 0x100_0000_0000_0000),
+        ],
+    )
 }
 
 fn live(d: Digest, machine: Machine, score: i64) -> Digest {
     let f = fields_of(machine);
-    let head = d.with_byte(1).with_byte(f.a).with_byte(f.b).with_byte(f.c);
-    let named = head.with_byte(f.d).with_byte(f.e).with_byte(0).with_byte(0);
-    let scored = named.with_number(signed::bits(score));
-    scored.with_number(f.x).with_number(f.y).with_number(f.z)
+    let named = d.with(&[1, f.a, f.b, f.c, f.d, f.e, 0, 0]);
+    let scored = with_number(named, signed::bits(score));
+    with_number(with_number(with_number(scored, f.x), f.y), f.z)
 }
 
 // The digest with a record's 40 bytes.
 pub(crate) fn add(d: Digest, p: Place) -> Digest {
     match p {
         Place::Live(machine, score) => live(d, machine, score),
-        Place::None => filled(d, 0),
-        Place::Unfit => filled(d, 0xFFFF_FFFF_FFFF_FFFF),
+        Place::None => d.with(&[0u8; 40]),
+        Place::Unfit => d.with(&[0xFFu8; 40]),
     }
 }
 
@@ -369,19 +379,22 @@ fn machine_of(place: u8, f: Fields) -> Machine {
 }
 
 // The place that a case's 40 bytes stand for.
-pub(crate) fn place_of(place: u8, bytes: &[u8]) -> Place {
-    if number::byte(bytes, 0) == 0 {
+pub(crate) fn place_of(place: u8, bytes: &[u8; 40]) -> Place {
+    if bytes[0] == 0 {
         return Place::None;
     }
-    let f = Fields {
-        a: number::byte(bytes, 1),
-        b: number::byte(bytes, 2),
-        c: number::byte(bytes, 3),
-        d: number::byte(bytes, 4),
-        e: number::byte(bytes, 5),
-        x: number::eight(bytes, 16),
-        y: number::eight(bytes, 24),
-        z: number::eight(bytes, 32),
-    };
-    Place::Live(machine_of(place, f), number::signed64(bytes, 8))
+    let f = laid(
+        bytes[1],
+        bytes[2],
+        bytes[3],
+        bytes[4],
+        bytes[5],
+        number::eight(bytes, 16),
+        number::eight(bytes, 24),
+        number::eight(bytes, 32),
+    );
+    Place::Live(
+        machine_of(place, f),
+        signed::of_bits64(number::eight(bytes, 8)),
+    )
 }

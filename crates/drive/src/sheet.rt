@@ -95,15 +95,12 @@ fn live(machine: Machine, total: i64) {
 
 // The name that a place's line begins with. Answers whether the place has a line.
 pub(crate) fn head(place: usize) -> bool {
-    if place == 2 {
-        say(b"euc-kr ");
-        return true;
+    if place != 2 && place != 3 {
+        return false;
     }
-    if place == 3 {
-        say(b"big5 ");
-        return true;
-    }
-    false
+    names::print_place(place);
+    say(b" ");
+    true
 }
 
 // The rest of the line.

@@ -2,9 +2,23 @@
 ghost use Prim.Native.Nat.{_+_, _*_, _<_, _≤_};
 ghost use lib.ListN.{length};
 ghost use mathlib.Core.Path.{_≡_};
+ghost use Rattle.lengths.specs.Lengths.{classCount, markCount, pairCount, extraCount};
 use crate::input;
-use crate::number;
+use lengths::BIG5;
+use lengths::CLASSES;
+use lengths::EUC_KR;
+use lengths::EXTRAS;
+use lengths::JIS;
+use lengths::MARKS;
+use lengths::PAIRS;
+use lengths::WEIGHTS;
 use libc::STDIN_FILENO;
+use reader::entries;
+
+// Entries of the arrays that hold the tables of several places.
+pub(crate) const SCORES: usize = 4 * PAIRS + EXTRAS;
+
+pub(crate) const INDEXES: usize = BIG5 + EUC_KR + JIS;
 
 // The tables of the four single-byte places, one after the other in each array; after their pair scores the Hangul extras;
 // the Big5, EUC-KR and JIS X 0208 indexes in one array, as they come.
@@ -15,7 +29,7 @@ pub(crate) fn read_all(
     weights: &mut [i32],
     indexes: &mut [u32],
 ) -> bool
-    requires { ⌜ (length (now classes) ≡ 1024) × ((length (now marks) ≡ 512) × (length (now scores) ≡ 76708)) ⌝ }
+    requires { ⌜ (length (now classes) ≡ 4 * classCount) × ((length (now marks) ≡ 4 * markCount) × (length (now scores) ≡ 4 * pairCount + extraCount)) ⌝ }
 {
     if !read_places(classes, marks, scores) {
         return false;
@@ -24,7 +38,7 @@ pub(crate) fn read_all(
 }
 
 fn read_places(classes: &mut [u8], marks: &mut [u8], scores: &mut [i16]) -> bool
-    requires { ⌜ (length (now classes) ≡ 1024) × ((length (now marks) ≡ 512) × (length (now scores) ≡ 76708)) ⌝ }
+    requires { ⌜ (length (now classes) ≡ 4 * classCount) × ((length (now marks) ≡ 4 * markCount) × (length (now scores) ≡ 4 * pairCount + extraCount)) ⌝ }
 {
     if !read_place(0, classes, marks, scores) {
         return false;
@@ -40,12 +54,12 @@ fn read_places(classes: &mut [u8], marks: &mut [u8], scores: &mut [i16]) -> bool
 
 // What follows the four places' tables.
 fn read_rest(scores: &mut [i16], weights: &mut [i32], indexes: &mut [u32]) -> bool
-    requires { ⌜ length (now scores) ≡ 76708 ⌝ }
+    requires { ⌜ length (now scores) ≡ 4 * pairCount + extraCount ⌝ }
 {
     if !read_indexes(indexes) {
         return false;
     }
-    if !read_halves(22344, &mut scores[65536..]) {
+    if !read_halves(2 * EXTRAS, &mut scores[4 * PAIRS..]) {
         return false;
     }
     read_weights(weights)
@@ -54,73 +68,48 @@ fn read_rest(scores: &mut [i16], weights: &mut [i32], indexes: &mut [u32]) -> bo
 // A place's tables go to its part of each array.
 fn read_place(k: usize, classes: &mut [u8], marks: &mut [u8], scores: &mut [i16]) -> bool
     requires { ⌜ k < 4 ⌝ }
-    requires { ⌜ (length (now classes) ≡ 1024) × ((length (now marks) ≡ 512) × (length (now scores) ≡ 76708)) ⌝ }
+    requires { ⌜ (length (now classes) ≡ 4 * classCount) × ((length (now marks) ≡ 4 * markCount) × (length (now scores) ≡ 4 * pairCount + extraCount)) ⌝ }
 {
-    if io::read_full(STDIN_FILENO, &mut classes[256 * k..256 * k + 256]) != 256 {
+    if io::read_full(
+        STDIN_FILENO,
+        &mut classes[CLASSES * k..CLASSES * k + CLASSES],
+    )
+        != CLASSES
+    {
         return false;
     }
-    if io::read_full(STDIN_FILENO, &mut marks[128 * k..128 * k + 128]) != 128 {
+    if io::read_full(STDIN_FILENO, &mut marks[MARKS * k..MARKS * k + MARKS]) != MARKS {
         return false;
     }
-    read_halves(32768, &mut scores[16384 * k..16384 * k + 16384])
+    read_halves(2 * PAIRS, &mut scores[PAIRS * k..PAIRS * k + PAIRS])
 }
 
 // As many numbers of 16 bits as there is room for, which take that many bytes.
 fn read_halves(len: usize, to: &mut [i16]) -> bool
-    requires { ⌜ len ≤ 32768 ⌝ }
+    requires { ⌜ len ≤ 2 * pairCount ⌝ }
 {
-    let mut bytes = [0u8; 32768];
+    let mut bytes = [0u8; 2 * PAIRS];
     if input::part(&mut bytes, len) < len {
         return false;
     }
-    halves(&bytes, to);
+    entries::halves(&bytes, to);
     true
 }
 
-fn halves(from: &[u8], to: &mut [i16]) {
-    let mut i: usize = 0;
-    while i < to.len() {
-        if 1000000 < i {
-            return;
-        }
-        to[i] = number::signed16(from, 2 * i);
-        i += 1;
-    }
-}
-
 fn read_weights(weights: &mut [i32]) -> bool {
-    let mut bytes = [0u8; 68];
-    if io::read_full(STDIN_FILENO, &mut bytes) != 68 {
+    let mut bytes = [0u8; 4 * WEIGHTS];
+    if io::read_full(STDIN_FILENO, &mut bytes) != 4 * WEIGHTS {
         return false;
     }
-    let mut i: usize = 0;
-    while i < weights.len() {
-        if 1000 < i {
-            return true;
-        }
-        weights[i] = number::signed32(&bytes, 4 * i);
-        i += 1;
-    }
+    entries::signed_words(&bytes, weights);
     true
 }
 
 fn read_indexes(indexes: &mut [u32]) -> bool {
-    let mut bytes = [0u8; 210232];
-    let n = io::read_full(STDIN_FILENO, &mut bytes);
-    if n != 210232 {
+    let mut bytes = [0u8; 4 * INDEXES];
+    if io::read_full(STDIN_FILENO, &mut bytes) != 4 * INDEXES {
         return false;
     }
-    words(&bytes[..n], indexes);
+    entries::words(&bytes, indexes);
     true
-}
-
-fn words(from: &[u8], to: &mut [u32]) {
-    let mut i: usize = 0;
-    while i < to.len() {
-        if 1000000 < i {
-            return;
-        }
-        to[i] = number::four(from, 4 * i) as u32;
-        i += 1;
-    }
 }

@@ -4,9 +4,10 @@
 mod decoders;
 
 ghost use mathlib.Core.Path.{_≡_};
-ghost use Prim.Native.Nat.{_+_, _*_, _^_, _<_, _≤_};
+ghost use Prim.Native.Nat.{_+_, _^_, _<_, _≤_};
 ghost use lib.ListN.{length};
 use libc::STDOUT_FILENO;
+use reader::entries;
 
 // What a stretch of an index holds.
 struct Tally {
@@ -80,43 +81,8 @@ fn show(name: &[u8], index: &[u32])
     tally_of(index).print();
 }
 
-// The byte at `at`, or 0 past the end.
-fn byte(bytes: &[u8], at: usize) -> u32
-    ensures { λ r. ⌜ r < 256 ⌝ }
-{
-    if at < bytes.len() {
-        return wide(bytes[at]);
-    }
-    0
-}
-
-fn wide(b: u8) -> u32
-    ensures { λ r. ⌜ r < 256 ⌝ }
-{
-    b as u32
-}
-
-// The entry whose four bytes begin at `at`, the least one first.
-fn entry(bytes: &[u8], at: usize) -> u32
-    requires { ⌜ at < 2 ^ 20 ⌝ }
-{
-    let low = byte(bytes, at) + 256 * byte(bytes, at + 1);
-    low + 65536 * (byte(bytes, at + 2) + 256 * byte(bytes, at + 3))
-}
-
-fn fill(index: &mut [u32], bytes: &[u8])
-    requires { ⌜ length (now index) ≡ 24576 ⌝ }
-{
-    let mut i = 0;
-    while i < index.len() {
-        index[i] = entry(bytes, 4 * i);
-        i += 1;
-    }
-}
-
 // A file's entries, and how many they are; none where it can't be read.
 fn read(path: &[u8], index: &mut [u32]) -> usize
-    requires { ⌜ length (now index) ≡ 24576 ⌝ }
     ensures { λ r. ⌜ r ≤ 24576 ⌝ }
 {
     let fd = os::open_read(path);
@@ -127,7 +93,7 @@ fn read(path: &[u8], index: &mut [u32]) -> usize
     let mut bytes = [0u8; 98304];
     let n = io::read_full(fd, &mut bytes);
     libc::close(fd);
-    fill(index, &bytes[..n]);
+    entries::words(&bytes[..n], index);
     n / 4
 }
 
@@ -159,7 +125,7 @@ fn jis0208() {
     let mut index = [0u32; 24576];
     let n = read(b"index-jis0208.u32le", &mut index);
     show(b"jis0208", &index[0..n]);
-    show(b"jis0208", &index[0..fewer(n, 8836)]);
+    show(b"jis0208", &index[0..fewer(n, lengths::JIS)]);
 }
 
 fn main() {

@@ -14,6 +14,7 @@ use lib.Seq.{take-nil}
 use borrow.Author.Tests.{leb-true}
 use Rattle.io.specs.Digits.{glyph}
 use Rattle.laws.specs.Tests.{either}
+use Rattle.names.specs.Names.{placeName}
 use Rattle.scribe.specs.Page.{page, onto}
 use Rattle.scribe.specs.PageLaws.{written}
 use Rattle.scribe.specs.Text.{ascii, flagOf, hexOf, decimalIn, decimalOf, signedOf}
@@ -43,7 +44,7 @@ use Rattle.state.specs.declared.State.{State}
 use Rattle.state.specs.declared.front.Front.{Front}
 use Rattle.state.specs.declared.leader.Leader as leader
 use Rattle.lines.specs.Fields.{heldText, utf8Text, iso2022jpText, euckrText, big5Text, classText, wordsText, caselessText, logicalText, visualText, arabicFrenchText}
-use Rattle.lines.specs.Names.{placeName, stateName, outName, koreanName, cjName, caseName}
+use Rattle.lines.specs.Names.{stateName, outName, koreanName, cjName, caseName}
 use Rattle.lines.specs.Show.{newline, savedText, frontText, recordText, scoredText, placeText, placesText, leadText, stateText}
 
 -- so many bytes at most

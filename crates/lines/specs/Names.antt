@@ -1,21 +1,12 @@
 -- The words of the replay format. Assumes nothing.
-use mathlib.Core.List.{List, [], _∷_}
+use mathlib.Core.List.{List}
 use Prim.Native.Nat.{ℕ}
-use lib.ListN.{getD}
 use Rattle.scribe.specs.Text.{ascii}
 use Rattle.big5.specs.declared.LatinCj as cj
 use Rattle.euckr.specs.declared.LatinKorean as korean
 use Rattle.iso2022jp.specs.declared.DecoderState as decoder
 use Rattle.iso2022jp.specs.declared.OutputState as output
 use Rattle.arabic_french.specs.declared.LatinCaseState as case
-
--- the places by their numbers
-abbrev pub places : List (List ℕ)
-places =
-    ascii "utf-8" ∷ ascii "iso-2022-jp" ∷ ascii "euc-kr" ∷ ascii "big5" ∷ ascii "caseless" ∷ ascii "logical" ∷ ascii "visual" ∷ []
-
-unfoldable pub placeName : ℕ → List ℕ
-placeName k = getD places k (ascii "arabic-french")
 
 unfoldable pub stateName : decoder.DecoderState → List ℕ
 stateName decoder.the-variants.Ascii = ascii "ascii"

@@ -1,6 +1,7 @@
 -- Whole lines as text: a reply's, and the ten of a state. Assumes nothing.
 use mathlib.Core.List.{List, [], _∷_, _++_}
 use Prim.Native.Nat.{ℕ}
+use Rattle.names.specs.Names.{placeName}
 use Rattle.scribe.specs.Text.{ascii, flagOf, hexOf, decimalOf, signedOf}
 use Rattle.context.specs.Context.{bytesOf}
 use Rattle.kinds.specs.Kinds.{kindOf}
@@ -15,7 +16,6 @@ use Rattle.state.specs.declared.front.Front.{Front}
 use Rattle.state.specs.declared.leader.Leader as leader
 use Rattle.state.specs.declared.State.{State}
 use Rattle.lines.specs.Fields.{utf8Text, iso2022jpText, euckrText, big5Text, caselessText, logicalText, visualText, arabicFrenchText}
-use Rattle.lines.specs.Names.{placeName}
 
 abbrev pub newline : List ℕ
 newline = 10 ∷ []

@@ -12,7 +12,6 @@ use Rattle.scribe.specs.Text.{ascii, hexOf}
 use Rattle.context.specs.Context.{bytesOf}
 use Rattle.context.specs.declared.Context.{Context}
 use Rattle.places.specs.declared.place.Place.{Place}
-use Rattle.lines.specs.Names.{placeName}
 use Rattle.lines.specs.Show.{savedText, placeText, placesText}
 
 -- ---- the context
@@ -40,18 +39,6 @@ module _ (c : Context) (n : ℕ) (e : n ≡ length (bytesOf c)) where
 
   pub two-saved : (n ≡ 0 → ⊥) → (n ≡ 1 → ⊥) → hexOf (c .first) ++ hexOf (c .second) ≡ savedText (bytesOf c)
   two-saved g h = two-of (c .first) (c .second) (c .len) (λ p. g (e ∙ p)) (λ p. h (e ∙ p))
-
--- ---- the last name
-pub last-name : (k : ℕ) → (k ≡ 0 → ⊥) → (k ≡ 1 → ⊥) → (k ≡ 2 → ⊥) → (k ≡ 3 → ⊥) → (k ≡ 4 → ⊥) → (k ≡ 5 → ⊥) → (k ≡ 6 → ⊥) → ascii "arabic-french" ≡ placeName k
-unfolding placeName
-last-name zero a b c d e f g = absurd (a refl)
-last-name (suc zero) a b c d e f g = absurd (b refl)
-last-name (suc (suc zero)) a b c d e f g = absurd (c refl)
-last-name (suc (suc (suc zero))) a b c d e f g = absurd (d refl)
-last-name (suc (suc (suc (suc zero)))) a b c d e f g = absurd (e refl)
-last-name (suc (suc (suc (suc (suc zero))))) a b c d e f g = absurd (f refl)
-last-name (suc (suc (suc (suc (suc (suc zero)))))) a b c d e f g = absurd (g refl)
-last-name (suc (suc (suc (suc (suc (suc (suc k))))))) a b c d e f g = refl
 
 -- ---- the places, in a loop: one turn at k, and the end
 pub places-turn : (p q : Page) (ps : List Place) (k : ℕ) (d : Place) → k < length ps → q ≡ onto p (placeText (getD ps k d)) → onto q (placesText (drop (k + 1) ps)) ≡ onto p (placesText (drop k ps))

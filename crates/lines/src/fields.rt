@@ -4,7 +4,7 @@ ghost use mathlib.Core.List.{_++_};
 ghost use Rattle.lines.specs.Fields.{heldText, utf8Text, iso2022jpText, euckrText, big5Text, classText, wordsText, caselessText, logicalText, visualText, arabicFrenchText};
 ghost use Rattle.scribe.specs.Page.{page, onto};
 ghost use Rattle.scribe.specs.Text.{ascii, flagOf, hexOf, decimalOf};
-use crate::names;
+use crate::terms;
 use arabic_french::ArabicFrench;
 use big5::Big5;
 use caseless::Caseless;
@@ -69,9 +69,9 @@ pub(crate) fn iso2022jp(out: &mut [u8], at: usize, m: Iso2022Jp) -> usize
     let state = m.state;
     let output_state = m.out;
     let a = page::word(out, at, b" state=");
-    let b = names::decoder_state(out, a, state);
+    let b = terms::decoder_state(out, a, state);
     let c = page::word(out, b, b" out=");
-    let d = names::output_state(out, c, output_state);
+    let d = terms::output_state(out, c, output_state);
     let e = hex(out, d, b" lead=", m.lead);
     flag(out, e, b" output=", m.output)
 }
@@ -85,7 +85,7 @@ pub(crate) fn euckr(out: &mut [u8], at: usize, m: EucKr) -> usize
     let b = hex(out, a, b" byte=", m.prev_byte);
     let c = flag(out, b, b" euc=", m.prev_was_euc_range);
     let d = page::word(out, c, b" prev=");
-    let e = names::korean(out, d, prev);
+    let e = terms::korean(out, d, prev);
     let f = count(out, e, b" word=", m.current_word_len);
     held(out, f, held_score)
 }
@@ -98,7 +98,7 @@ pub(crate) fn big5(out: &mut [u8], at: usize, m: Big5) -> usize
     let a = hex(out, at, b" lead=", m.lead);
     let b = hex(out, a, b" byte=", m.prev_byte);
     let c = page::word(out, b, b" prev=");
-    let d = names::cj(out, c, prev);
+    let d = terms::cj(out, c, prev);
     held(out, d, held_score)
 }
 
@@ -147,6 +147,6 @@ pub(crate) fn arabic_french(out: &mut [u8], at: usize, m: ArabicFrench) -> usize
     let case_state = m.case_state;
     let a = class(out, at, m.prev, m.prev_ascii);
     let b = page::word(out, a, b" case=");
-    let c = names::case(out, b, case_state);
+    let c = terms::case(out, b, case_state);
     words(out, c, m.current_word_len, m.longest_word)
 }

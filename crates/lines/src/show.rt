@@ -6,9 +6,9 @@ ghost use Rattle.lines.specs.Show.{newline, savedText, replyText, frontT
 ghost use Rattle.scribe.specs.Page.{page, onto};
 ghost use Rattle.scribe.specs.Text.{ascii};
 use crate::fields;
-use crate::names;
 use context::Context;
 use kinds::machine::Machine;
+use names;
 use places::place::Place;
 use places::place::Score;
 use places::place::Slate;

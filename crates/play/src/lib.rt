@@ -1,5 +1,4 @@
 // The replay format, played from a descriptor.
-mod digest;
 mod input;
 mod print;
 mod turns;

@@ -1,5 +1,5 @@
 // Answers go to standard output, or into a digest.
-use crate::digest::Digest;
+use digest::Digest;
 use libc::STDOUT_FILENO;
 use lines::show;
 use state::State;

@@ -3,11 +3,19 @@ ghost use mathlib.Core.Path.{_≡_};
 ghost use Prim.Native.Nat.{_+_, _≤_};
 ghost use lib.ListN.{length};
 ghost use Rattle.play.specs.Within.{Within};
-use crate::digest::Digest;
 use crate::input;
 use crate::input::Span;
 use crate::print::Sink;
 use detector::feed;
+use digest::Digest;
+use lengths::BIG5;
+use lengths::CLASSES;
+use lengths::EUC_KR;
+use lengths::EXTRAS;
+use lengths::JIS;
+use lengths::MARKS;
+use lengths::PAIRS;
+use lengths::WEIGHTS;
 use reader::command;
 use reader::command::Command;
 use state;
@@ -276,9 +284,9 @@ fn turns(
 fn single(
     window: &mut [u8],
     span: Span,
-    classes: &mut [u8; 256],
-    marks: &mut [u8; 128],
-    pairs: &mut [i16; 16384],
+    classes: &mut [u8; CLASSES],
+    marks: &mut [u8; MARKS],
+    pairs: &mut [i16; PAIRS],
 ) -> Span
     requires { ⌜ Within (length (now window)) span ⌝ }
     ensures { λ r. ⌜ Within (length (now (window .entry))) r ⌝ }
@@ -292,18 +300,18 @@ fn single(
 fn lend_singles(
     window: &mut [u8],
     span: Span,
-    classes4: &mut [u8; 256],
-    marks4: &mut [u8; 128],
-    pairs4: &mut [i16; 16384],
-    classes5: &mut [u8; 256],
-    marks5: &mut [u8; 128],
-    pairs5: &mut [i16; 16384],
-    classes6: &mut [u8; 256],
-    marks6: &mut [u8; 128],
-    pairs6: &mut [i16; 16384],
-    classes7: &mut [u8; 256],
-    marks7: &mut [u8; 128],
-    pairs7: &mut [i16; 16384],
+    classes4: &mut [u8; CLASSES],
+    marks4: &mut [u8; MARKS],
+    pairs4: &mut [i16; PAIRS],
+    classes5: &mut [u8; CLASSES],
+    marks5: &mut [u8; MARKS],
+    pairs5: &mut [i16; PAIRS],
+    classes6: &mut [u8; CLASSES],
+    marks6: &mut [u8; MARKS],
+    pairs6: &mut [i16; PAIRS],
+    classes7: &mut [u8; CLASSES],
+    marks7: &mut [u8; MARKS],
+    pairs7: &mut [i16; PAIRS],
 ) -> Span
     requires { ⌜ Within (length (now window)) span ⌝ }
     ensures { λ r. ⌜ Within (length (now (window .entry))) r ⌝ }
@@ -318,11 +326,11 @@ fn lend_singles(
 fn lend_rest(
     window: &mut [u8],
     span: Span,
-    big5: &mut [u32; 19782],
-    euckr: &mut [u32; 23940],
-    jis: &mut [u32; 8836],
-    extras: &mut [i16; 11172],
-    weights: &mut [i32; 17],
+    big5: &mut [u32; BIG5],
+    euckr: &mut [u32; EUC_KR],
+    jis: &mut [u32; JIS],
+    extras: &mut [i16; EXTRAS],
+    weights: &mut [i32; WEIGHTS],
 ) -> Span
     requires { ⌜ Within (length (now window)) span ⌝ }
     ensures { λ r. ⌜ Within (length (now (window .entry))) r ⌝ }
@@ -338,23 +346,23 @@ fn lend_rest(
 fn round(
     window: &mut [u8; 131072],
     from: Stand,
-    classes4: &mut [u8; 256],
-    marks4: &mut [u8; 128],
-    pairs4: &mut [i16; 16384],
-    classes5: &mut [u8; 256],
-    marks5: &mut [u8; 128],
-    pairs5: &mut [i16; 16384],
-    classes6: &mut [u8; 256],
-    marks6: &mut [u8; 128],
-    pairs6: &mut [i16; 16384],
-    classes7: &mut [u8; 256],
-    marks7: &mut [u8; 128],
-    pairs7: &mut [i16; 16384],
-    big5: &mut [u32; 19782],
-    euckr: &mut [u32; 23940],
-    jis: &mut [u32; 8836],
-    extras: &mut [i16; 11172],
-    weights: &mut [i32; 17],
+    classes4: &mut [u8; CLASSES],
+    marks4: &mut [u8; MARKS],
+    pairs4: &mut [i16; PAIRS],
+    classes5: &mut [u8; CLASSES],
+    marks5: &mut [u8; MARKS],
+    pairs5: &mut [i16; PAIRS],
+    classes6: &mut [u8; CLASSES],
+    marks6: &mut [u8; MARKS],
+    pairs6: &mut [i16; PAIRS],
+    classes7: &mut [u8; CLASSES],
+    marks7: &mut [u8; MARKS],
+    pairs7: &mut [i16; PAIRS],
+    big5: &mut [u32; BIG5],
+    euckr: &mut [u32; EUC_KR],
+    jis: &mut [u32; JIS],
+    extras: &mut [i16; EXTRAS],
+    weights: &mut [i32; WEIGHTS],
 ) -> Stand
     requires { ⌜ Within (length (now window)) (from .span) ⌝ }
     ensures { λ r. ⌜ Within (length (now (window .entry))) (r .span) × (length (now (window .exit)) ≡ length (now (window .entry))) ⌝ }
@@ -435,23 +443,23 @@ fn ended(t: Stand) {
 // Plays what a descriptor has. The answers go to standard output as they are, or their digest at the end.
 pub fn play(from: i32, aloud: bool) {
     let mut window = [0u8; 131072];
-    let mut classes4 = [0u8; 256];
-    let mut marks4 = [0u8; 128];
-    let mut pairs4 = [0i16; 16384];
-    let mut classes5 = [0u8; 256];
-    let mut marks5 = [0u8; 128];
-    let mut pairs5 = [0i16; 16384];
-    let mut classes6 = [0u8; 256];
-    let mut marks6 = [0u8; 128];
-    let mut pairs6 = [0i16; 16384];
-    let mut classes7 = [0u8; 256];
-    let mut marks7 = [0u8; 128];
-    let mut pairs7 = [0i16; 16384];
-    let mut big5 = [0u32; 19782];
-    let mut euckr = [0u32; 23940];
-    let mut jis = [0u32; 8836];
-    let mut extras = [0i16; 11172];
-    let mut weights = [0i32; 17];
+    let mut classes4 = [0u8; CLASSES];
+    let mut marks4 = [0u8; MARKS];
+    let mut pairs4 = [0i16; PAIRS];
+    let mut classes5 = [0u8; CLASSES];
+    let mut marks5 = [0u8; MARKS];
+    let mut pairs5 = [0i16; PAIRS];
+    let mut classes6 = [0u8; CLASSES];
+    let mut marks6 = [0u8; MARKS];
+    let mut pairs6 = [0i16; PAIRS];
+    let mut classes7 = [0u8; CLASSES];
+    let mut marks7 = [0u8; MARKS];
+    let mut pairs7 = [0i16; PAIRS];
+    let mut big5 = [0u32; BIG5];
+    let mut euckr = [0u32; EUC_KR];
+    let mut jis = [0u32; JIS];
+    let mut extras = [0i16; EXTRAS];
+    let mut weights = [0i32; WEIGHTS];
     let mut t = begun(from, aloud);
     let mut count: u64 = 0;
     while count < 0x4000_0000_0000_0000 {

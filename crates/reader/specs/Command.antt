@@ -4,7 +4,7 @@ use mathlib.Core.List.{List}
 use Prim.Native.Nat.{ℕ, _+_, _-_, _*_}
 use lib.Dec.{eqb, ltb}
 use lib.ListN.{length, getD}
-use Rattle.reader.specs.Fill.{whole}
+use Rattle.reader.specs.Little.{littleAt}
 use Rattle.reader.specs.declared.command.Command.{Command}
 use Rattle.reader.specs.declared.command.Command.the-variants.{Start, Feed, Show, Lend, More, Bad}
 
@@ -25,7 +25,7 @@ feedOf xs =
     (cond
     (ltb 1 (getD xs 1 0))
     Bad
-    (chunkOf (eqb (getD xs 1 0) 1) (whole (getD xs 2 0) (getD xs 3 0) (getD xs 4 0) (getD xs 5 0)) (length xs - 6)))
+    (chunkOf (eqb (getD xs 1 0) 1) (littleAt 4 xs 2) (length xs - 6)))
 
 -- by the first byte: `S`, `F`, `Q`, `T`
 unfoldable pub readOf : List ℕ → Command

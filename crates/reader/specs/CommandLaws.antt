@@ -8,7 +8,7 @@ use lib.ListN.{length, getD}
 use borrow.Author.Tests.{ltb-false}
 use Rattle.laws.specs.Tests.{either}
 use Rattle.reader.specs.Command.{startOf, chunkOf, feedOf, readOf}
-use Rattle.reader.specs.Fill.{whole}
+use Rattle.reader.specs.Little.{littleAt}
 use Rattle.reader.specs.declared.command.Command.{Command}
 use Rattle.reader.specs.declared.command.Command.the-variants.{Start, Feed, Show, Lend, More, Bad}
 
@@ -29,7 +29,7 @@ module _ (xs : List ℕ) where
   feed-room : Room (length xs) (feedOf xs)
   unfolding feedOf chunkOf
   feed-room =
-      let n = whole (getD xs 2 0) (getD xs 3 0) (getD xs 4 0) (getD xs 5 0) in
+      let n = littleAt 4 xs 2 in
       either
       (Room (length xs))
       (ltb (length xs) 6)

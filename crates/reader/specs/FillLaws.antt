@@ -8,9 +8,7 @@ use native.Mathlib.Omega.{arith}
 use lib.ListN.{length, getD, take, drop, set, take-append-drop, length-drop, drop-of-length-le}
 use lib.Seq.{take-all, drop-cons, append-snoc, take-suc-set, drop-set-lt, getD-drop, drop-drop}
 use borrow.Author.Tests.{lt-ltb, le-ltb}
-use mir.Syntax.{w16, w32}
-use mir.Val.{toZ}
-use Rattle.reader.specs.Fill.{half, whole, fill, octetAt, halfAt, wordAt, signedWordAt}
+use Rattle.reader.specs.Fill.{fill, octetAt}
 
 module _ {A : Type 0} (k : ℕ) (f : List ℕ → A) where
   -- the entries before i are done, and the bytes before `at` are read
@@ -42,7 +40,7 @@ module _ {A : Type 0} (k : ℕ) (f : List ℕ → A) where
     unfolding fill
     fill-done h = rw (drop-of-length-le ts {i = i} h, append-nil, take-all i ts h)
 
--- ---- an entry's bytes in place
+-- ---- an entry's byte in place
 module _ (xs : List ℕ) (at : ℕ) where
   first : getD (drop at xs) 0 0 ≡ getD xs at 0
   first = getD-drop at xs 0 0 ∙ ap (λ (n : ℕ). getD xs n 0) (add-zero at)
@@ -50,15 +48,3 @@ module _ (xs : List ℕ) (at : ℕ) where
   pub octet-at : getD xs at 0 ≡ octetAt (drop at xs)
   unfolding octetAt
   octet-at = rw first
-
-  pub half-at : toZ w16 (half (getD xs at 0) (getD xs (at + 1) 0)) ≡ halfAt (drop at xs)
-  unfolding halfAt
-  half-at = rw (first, getD-drop)
-
-  pub word-at : whole (getD xs at 0) (getD xs (at + 1) 0) (getD xs (at + 2) 0) (getD xs (at + 3) 0) ≡ wordAt (drop at xs)
-  unfolding wordAt
-  word-at = rw (first, getD-drop at xs 1 0, getD-drop at xs 2 0, getD-drop at xs 3 0)
-
-  pub signed-word-at : toZ w32 (whole (getD xs at 0) (getD xs (at + 1) 0) (getD xs (at + 2) 0) (getD xs (at + 3) 0)) ≡ signedWordAt (drop at xs)
-  unfolding signedWordAt
-  signed-word-at = ap (toZ w32) word-at

@@ -6,7 +6,7 @@ use lib.Dec.{eqb}
 use lib.ListN.{length, getD}
 use borrow.Author.Tests.{lt-ltb, le-ltb, eq-eqb, ne-eqb}
 use Rattle.reader.specs.Command.{startOf, chunkOf, feedOf, readOf}
-use Rattle.reader.specs.Fill.{whole}
+use Rattle.reader.specs.Little.{littleAt}
 use Rattle.reader.specs.declared.command.Command.{Command}
 use Rattle.reader.specs.declared.command.Command.the-variants.{Feed, Show, Lend, More, Bad}
 
@@ -19,7 +19,7 @@ module _ (xs : List ℕ) where
   unfolding feedOf
   feed-bad h l = rw (le-ltb (length xs) 6 h, lt-ltb 1 (getD xs 1 0) l)
 
-  module _ (n : ℕ) (h : 6 ≤ length xs) (l : getD xs 1 0 ≤ 1) (e : n ≡ whole (getD xs 2 0) (getD xs 3 0) (getD xs 4 0) (getD xs 5 0)) where
+  module _ (n : ℕ) (h : 6 ≤ length xs) (l : getD xs 1 0 ≤ 1) (e : n ≡ littleAt 4 xs 2) where
     is-chunk : chunkOf (eqb (getD xs 1 0) 1) n (length xs - 6) ≡ feedOf xs
     unfolding feedOf
     is-chunk = rw (e, le-ltb (length xs) 6 h, le-ltb 1 (getD xs 1 0) l)

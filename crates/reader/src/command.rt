@@ -40,7 +40,7 @@ fn feed(bytes: &[u8]) -> Command
     if 1 < bytes[1] {
         return Command::Bad;
     }
-    let length = number::whole(bytes[2], bytes[3], bytes[4], bytes[5]) as usize;
+    let length = number::four(bytes, 2) as usize;
     if CHUNK < length {
         return Command::Bad;
     }

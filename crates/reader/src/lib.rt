@@ -1,4 +1,4 @@
 // What the replay format gives: little-endian numbers, lent tables and commands, read out of a buffer.
 pub mod command;
-mod number;
-pub mod tables;
+pub mod entries;
+pub mod number;

@@ -15,7 +15,6 @@ use places::order;
 use places::place::Score;
 use state::State;
 use state::front::Front;
-use tables::tests::either;
 
 // What is wrong: the families below, of a place's kind.
 pub(crate) struct Family {
@@ -204,7 +203,7 @@ pub(crate) fn most(f: Family) -> usize {
 }
 
 fn is_of_a_kind(number: usize) -> bool {
-    either(number < 6, number == 8)
+    number < 6 || number == 8
 }
 
 pub(crate) fn name(f: Family) {
@@ -223,7 +222,7 @@ pub(crate) fn name(f: Family) {
     }
     if is_of_a_kind(number) {
         sheet::say(b", ");
-        sheet::name(f.kind);
+        names::print_place(f.kind);
     }
 }
 

@@ -14,6 +14,12 @@ mod stale;
 mod starts;
 mod tally;
 
+use lengths::CLASSES;
+use lengths::EUC_KR;
+use lengths::EXTRAS;
+use lengths::MARKS;
+use lengths::PAIRS;
+use lengths::WEIGHTS;
 use lent::Odd;
 use state;
 
@@ -62,12 +68,12 @@ fn checks(
 }
 
 fn main() {
-    let mut classes = [0u8; 257];
-    let mut marks = [0u8; 129];
-    let mut pairs = [0i16; 16385];
-    let index = [0u32; 23941];
-    let extras = [0i16; 11173];
-    let mut weights = [0i32; 18];
+    let mut classes = [0u8; CLASSES + 1];
+    let mut marks = [0u8; MARKS + 1];
+    let mut pairs = [0i16; PAIRS + 1];
+    let index = [0u32; EUC_KR + 1];
+    let extras = [0i16; EXTRAS + 1];
+    let mut weights = [0i32; WEIGHTS + 1];
     lent::fill_classes(&mut classes);
     lent::fill_marks(&mut marks);
     lent::fill_pairs(&mut pairs);

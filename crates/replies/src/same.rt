@@ -17,7 +17,6 @@ use places::place::Place;
 use places::place::Score;
 use state::State;
 use state::front::Front;
-use tables::tests::both;
 use utf8::Utf8;
 use visual::Visual;
 
@@ -25,7 +24,7 @@ fn same_utf8(a: Utf8, other: Machine) -> bool {
     let Machine::Utf8(b) = other else {
         return false;
     };
-    both(a.need == b.need, both(a.lo == b.lo, a.hi == b.hi))
+    a.need == b.need && a.lo == b.lo && a.hi == b.hi
 }
 
 fn decoder(state: DecoderState) -> u8 {
@@ -57,11 +56,10 @@ fn same_iso2022jp(a: Iso2022Jp, other: Machine) -> bool {
     let out = a.out;
     let other_state = b.state;
     let other_out = b.out;
-    let states = both(
-        decoder(state) == decoder(other_state),
-        output(out) == output(other_out),
-    );
-    both(states, both(a.lead == b.lead, a.output == b.output))
+    decoder(state) == decoder(other_state)
+        && output(out) == output(other_out)
+        && a.lead == b.lead
+        && a.output == b.output
 }
 
 fn same_held(a: Held, b: Held) -> bool {
@@ -94,13 +92,12 @@ fn same_euckr(a: EucKr, other: Machine) -> bool {
     let held = a.held;
     let other_prev = b.prev;
     let other_held = b.held;
-    let bytes = both(a.lead == b.lead, a.prev_byte == b.prev_byte);
-    let ranges = both(a.prev_was_euc_range == b.prev_was_euc_range, bytes);
-    let words = both(a.current_word_len == b.current_word_len, ranges);
-    both(
-        korean(prev) == korean(other_prev),
-        both(same_held(held, other_held), words),
-    )
+    korean(prev) == korean(other_prev)
+        && same_held(held, other_held)
+        && a.lead == b.lead
+        && a.prev_byte == b.prev_byte
+        && a.prev_was_euc_range == b.prev_was_euc_range
+        && a.current_word_len == b.current_word_len
 }
 
 fn cj(kind: LatinCj) -> u8 {
@@ -119,47 +116,43 @@ fn same_big5(a: Big5, other: Machine) -> bool {
     let held = a.held;
     let other_prev = b.prev;
     let other_held = b.held;
-    let bytes = both(a.lead == b.lead, a.prev_byte == b.prev_byte);
-    both(
-        cj(prev) == cj(other_prev),
-        both(same_held(held, other_held), bytes),
-    )
+    cj(prev) == cj(other_prev)
+        && same_held(held, other_held)
+        && a.lead == b.lead
+        && a.prev_byte == b.prev_byte
 }
 
 fn same_caseless(a: Caseless, other: Machine) -> bool {
     let Machine::Caseless(b) = other else {
         return false;
     };
-    let words = both(
-        a.current_word_len == b.current_word_len,
-        a.longest_word == b.longest_word,
-    );
-    both(a.prev == b.prev, both(a.prev_ascii == b.prev_ascii, words))
+    a.prev == b.prev
+        && a.prev_ascii == b.prev_ascii
+        && a.current_word_len == b.current_word_len
+        && a.longest_word == b.longest_word
 }
 
 fn same_logical(a: Logical, other: Machine) -> bool {
     let Machine::Logical(b) = other else {
         return false;
     };
-    let words = both(
-        a.current_word_len == b.current_word_len,
-        a.longest_word == b.longest_word,
-    );
-    let counts = both(a.plausible_punctuation == b.plausible_punctuation, words);
-    both(a.prev == b.prev, both(a.prev_ascii == b.prev_ascii, counts))
+    a.prev == b.prev
+        && a.prev_ascii == b.prev_ascii
+        && a.current_word_len == b.current_word_len
+        && a.longest_word == b.longest_word
+        && a.plausible_punctuation == b.plausible_punctuation
 }
 
 fn same_visual(a: Visual, other: Machine) -> bool {
     let Machine::Visual(b) = other else {
         return false;
     };
-    let words = both(
-        a.current_word_len == b.current_word_len,
-        a.longest_word == b.longest_word,
-    );
-    let counts = both(a.plausible_punctuation == b.plausible_punctuation, words);
-    let marks = both(a.prev_punctuation == b.prev_punctuation, counts);
-    both(a.prev == b.prev, both(a.prev_ascii == b.prev_ascii, marks))
+    a.prev == b.prev
+        && a.prev_ascii == b.prev_ascii
+        && a.current_word_len == b.current_word_len
+        && a.longest_word == b.longest_word
+        && a.plausible_punctuation == b.plausible_punctuation
+        && a.prev_punctuation == b.prev_punctuation
 }
 
 fn case(state: LatinCaseState) -> u8 {
@@ -177,12 +170,11 @@ fn same_arabic_french(a: ArabicFrench, other: Machine) -> bool {
     };
     let case_state = a.case_state;
     let other_case = b.case_state;
-    let words = both(
-        a.current_word_len == b.current_word_len,
-        a.longest_word == b.longest_word,
-    );
-    let cases = both(case(case_state) == case(other_case), words);
-    both(a.prev == b.prev, both(a.prev_ascii == b.prev_ascii, cases))
+    a.prev == b.prev
+        && a.prev_ascii == b.prev_ascii
+        && a.current_word_len == b.current_word_len
+        && a.longest_word == b.longest_word
+        && case(case_state) == case(other_case)
 }
 
 fn same_machine(a: Machine, b: Machine) -> bool {
@@ -216,25 +208,21 @@ pub(crate) fn same_place(a: Place, b: Place) -> bool {
     let score = a.score;
     let other_machine = b.machine;
     let other_score = b.score;
-    both(
-        same_machine(machine, other_machine),
-        same_score(score, other_score),
-    )
+    same_machine(machine, other_machine) && same_score(score, other_score)
 }
 
 fn same_context(a: Context, b: Context) -> bool {
-    both(
-        a.len == b.len,
-        both(a.first == b.first, a.second == b.second),
-    )
+    a.len == b.len && a.first == b.first && a.second == b.second
 }
 
 pub(crate) fn same_front(a: Front, b: Front) -> bool {
     let context = a.context;
     let other_context = b.context;
-    let counts = both(a.non_ascii_seen == b.non_ascii_seen, a.bytes == b.bytes);
-    let flags = both(a.esc_seen == b.esc_seen, a.closed == b.closed);
-    both(same_context(context, other_context), both(flags, counts))
+    same_context(context, other_context)
+        && a.esc_seen == b.esc_seen
+        && a.closed == b.closed
+        && a.non_ascii_seen == b.non_ascii_seen
+        && a.bytes == b.bytes
 }
 
 pub(crate) fn same_state(a: State, b: State) -> bool {
@@ -242,13 +230,14 @@ pub(crate) fn same_state(a: State, b: State) -> bool {
     let other_front = b.front;
     let places = a.places;
     let other_places = b.places;
-    let mut same = same_front(front, other_front);
     let mut k: usize = 0;
     while k < 8 {
         let place = places[k];
         let other_place = other_places[k];
-        same = both(same, same_place(place, other_place));
+        if !same_place(place, other_place) {
+            return false;
+        }
         k += 1;
     }
-    same
+    same_front(front, other_front)
 }

@@ -1,4 +1,4 @@
-// Names, numbers and the printed sheet of document 01.
+// Words, numbers and the printed sheet of document 01.
 use libc::STDOUT_FILENO;
 use places::place::Score;
 use state::State;
@@ -11,20 +11,6 @@ pub(crate) fn say(words: &[u8]) {
 
 pub(crate) fn number(n: u64) {
     io::print_decimal(STDOUT_FILENO, n);
-}
-
-pub(crate) fn name(k: usize) {
-    match k {
-        0 => say(b"utf-8"),
-        1 => say(b"iso-2022-jp"),
-        2 => say(b"euc-kr"),
-        3 => say(b"big5"),
-        4 => say(b"caseless"),
-        5 => say(b"logical"),
-        6 => say(b"visual"),
-        7 => say(b"arabic-french"),
-        _ => say(b"?"),
-    }
 }
 
 pub(crate) fn score(s: Score) {
@@ -43,7 +29,7 @@ pub(crate) fn leader(state: State) {
     match leader::of(state) {
         Leader::Ascii => say(b"ascii"),
         Leader::None => say(b"none"),
-        Leader::Place(k) => name(k),
+        Leader::Place(k) => names::print_place(k),
     }
 }
 
@@ -63,7 +49,7 @@ pub(crate) fn print(state: State) {
     while k < 8 {
         let place = places[k];
         let s = place.score;
-        name(k);
+        names::print_place(k);
         say(b" ");
         score(s);
         say(b"\n");

@@ -8,7 +8,6 @@ use places::place::Place;
 use places::slate;
 use state;
 use state::State;
-use tables::tests::both;
 
 // All eight places live before its eighth byte, seven before its twelfth, six to its end.
 fn stream() -> [u8; 16] {
@@ -43,18 +42,19 @@ fn all_agree(bits: u8, all: State, some: State) -> bool {
     let places = all.places;
     let some_places = some.places;
     let idle_places = slate::start(0);
-    let mut agree = same::same_front(front, some_front);
     let mut rest = bits;
     let mut k: usize = 0;
     while k < 8 {
         let place = places[k];
         let some_place = some_places[k];
         let idle = idle_places[k];
-        agree = both(agree, agrees(rest % 2 == 1, place, some_place, idle));
+        if !agrees(rest % 2 == 1, place, some_place, idle) {
+            return false;
+        }
         rest = rest / 2;
         k += 1;
     }
-    agree
+    same::same_front(front, some_front)
 }
 
 fn byte(

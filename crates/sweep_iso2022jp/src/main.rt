@@ -2,9 +2,10 @@
 // after each escape that is one, and every pair after ESC $ B. Each is compared with a second check, written another way.
 // Prints how many there were, how many were whole, cut and none, and on how many the two differ.
 ghost use mathlib.Core.Path.{_≡_};
-ghost use lib.ListN.{length};
 use iso2022jp::Iso2022Jp;
 use iso2022jp::Ran;
+use lengths::JIS;
+use reader::entries;
 use tally::Counts;
 
 fn machine(part: &[u8], index: &[u32]) -> u8 {
@@ -146,26 +147,16 @@ fn swept(sweep: Sweep, to: u32, index: &[u32]) -> Counts {
     counts
 }
 
-// A little-endian number of four bytes.
-fn word(a: u8, b: u8, c: u8, d: u8) -> u32 {
-    wide(a) + 256 * wide(b) + 65536 * wide(c) + 16_777_216 * wide(d)
-}
-
-fn fill(index: &mut [u32], bytes: &[u8]) -> u64
-    requires { ⌜ (length (now index) ≡ 8836) × (length (now bytes) ≡ 35344) ⌝ }
-{
-    let mut mapped = 0;
+fn mapped(index: &[u32]) -> u64 {
+    let mut count = 0;
     let mut i = 0;
-    while i < 8836 {
-        let at = 4 * i;
-        let entry = word(bytes[at], bytes[at + 1], bytes[at + 2], bytes[at + 3]);
-        index[i] = entry;
-        if entry != 0 {
-            mapped = std::num::wrapping_add_u64(mapped, 1);
+    while i < index.len() {
+        if index[i] != 0 {
+            count = std::num::wrapping_add_u64(count, 1);
         }
         i += 1;
     }
-    mapped
+    count
 }
 
 fn print_sweeps(index: &[u32]) {
@@ -184,12 +175,13 @@ fn main() {
         os::fail(path);
         return;
     }
-    let mut bytes = [0u8; 35344];
+    let mut bytes = [0u8; 4 * JIS];
     let got = io::read_full(file, &mut bytes);
     libc::close(file);
     tally::print_count(b"bytes of the index ", got as u64);
-    let mut index = [0u32; 8836];
-    tally::print_count(b", mapped ", fill(&mut index, &bytes));
+    let mut index = [0u32; JIS];
+    entries::words(&bytes, &mut index);
+    tally::print_count(b", mapped ", mapped(&index));
     tally::print_word(b"\n");
     print_sweeps(&index);
 }

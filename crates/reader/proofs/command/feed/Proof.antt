@@ -14,41 +14,29 @@ shared-slice-read-if2 c = search needs
 returns-2 : tie.Need-returns-2
 returns-2 c = feed-bad _ (omega arith) (omega arith)
 
-shared-slice-read-whole : tie.Need-shared-slice-read-whole
-shared-slice-read-whole c = search needs
-
-shared-slice-read-whole-2 : tie.Need-shared-slice-read-whole-2
-shared-slice-read-whole-2 c = search needs
-
-shared-slice-read-whole-3 : tie.Need-shared-slice-read-whole-3
-shared-slice-read-whole-3 c = search needs
-
-shared-slice-read-whole-4 : tie.Need-shared-slice-read-whole-4
-shared-slice-read-whole-4 c = search needs
-
-whole-requires : tie.Need-whole-requires
-whole-requires c κs = search needs
+four-requires : tie.Need-four-requires
+four-requires c κs = search needs
 
 cast-length : tie.Need-cast-length
 cast-length c = search needs
 
 returns-3 : tie.Need-returns-3
-returns-3 c = feed-long _ _ (omega arith) (omega arith) (c .before .whole .ensures) (omega arith)
+returns-3 c = feed-long _ _ (omega arith) (omega arith) (c .before .four .ensures) (omega arith)
 
 sub-if4 : tie.Need-sub-if4
 sub-if4 c = search needs
 
-add-t16 : tie.Need-add-t16
-add-t16 c = search needs
+add-t9 : tie.Need-add-t9
+add-t9 c = search needs
 
 returns-4 : tie.Need-returns-4
-returns-4 c = feed-more _ _ (omega arith) (omega arith) (c .before .before .whole .ensures) (omega arith) (omega arith)
+returns-4 c = feed-more _ _ (omega arith) (omega arith) (c .before .before .four .ensures) (omega arith) (omega arith)
 
-shared-slice-read-t12 : tie.Need-shared-slice-read-t12
-shared-slice-read-t12 c = search needs
+shared-slice-read-t6 : tie.Need-shared-slice-read-t6
+shared-slice-read-t6 c = search needs
 
 returns-5 : tie.Need-returns-5
-returns-5 c = feed-whole _ _ (omega arith) (omega arith) (c .before .before .before .whole .ensures) (omega arith) (omega arith)
+returns-5 c = feed-whole _ _ (omega arith) (omega arith) (c .before .before .before .four .ensures) (omega arith) (omega arith)
 
 pub feed-spec : {M : Type 1} → statement M
 feed-spec =
@@ -57,15 +45,11 @@ feed-spec =
     returns
     shared-slice-read-if2
     returns-2
-    shared-slice-read-whole
-    shared-slice-read-whole-2
-    shared-slice-read-whole-3
-    shared-slice-read-whole-4
-    whole-requires
+    four-requires
     cast-length
     returns-3
     sub-if4
-    add-t16
+    add-t9
     returns-4
-    shared-slice-read-t12
+    shared-slice-read-t6
     returns-5)

@@ -5,13 +5,10 @@ use Rattle.replies.proofs.same.same_state.Statement.{statement}
 use Rattle.replies.proofs.same.same_state.Tie as tie
 
 abbrev Inv-loop : tie.InvT-loop
-Inv-loop places other-places same₀ k₀ same k = k ≤ 8
+Inv-loop front other-front places other-places k₀ k = k ≤ 8
 
 abbrev μ-loop : tie.MeasureT-loop
-μ-loop places other-places same₀ k₀ same k = 8 - k
-
-same-front-requires : tie.Need-same-front-requires Inv-loop μ-loop
-same-front-requires c κs = search needs
+μ-loop front other-front places other-places k₀ k = 8 - k
 
 loop-holds : tie.Need-loop-holds Inv-loop μ-loop
 loop-holds c = search needs
@@ -31,8 +28,8 @@ array-copy-out-other-place c = search needs
 same-place-requires : tie.Need-same-place-requires Inv-loop μ-loop
 same-place-requires c κs = search needs
 
-both-requires : tie.Need-both-requires Inv-loop μ-loop
-both-requires c κs = search needs
+returns : tie.Need-returns Inv-loop μ-loop
+returns c = search needs
 
 add-k : tie.Need-add-k Inv-loop μ-loop
 add-k c = search needs
@@ -43,8 +40,11 @@ loop-less c = search needs
 loop-again : tie.Need-loop-again Inv-loop μ-loop
 loop-again c = search needs
 
-returns : tie.Need-returns Inv-loop μ-loop
-returns c = search needs
+same-front-requires : tie.Need-same-front-requires Inv-loop μ-loop
+same-front-requires c κs = search needs
+
+returns-2 : tie.Need-returns-2 Inv-loop μ-loop
+returns-2 c = search needs
 
 pub same-state-spec : {M : Type 1} → statement M
 same-state-spec =
@@ -52,15 +52,15 @@ same-state-spec =
     (tie.spec
     Inv-loop
     μ-loop
-    same-front-requires
     loop-holds
     mul-place
     array-copy-out-place
     mul-other-place
     array-copy-out-other-place
     same-place-requires
-    both-requires
+    returns
     add-k
     loop-less
     loop-again
-    returns)
+    same-front-requires
+    returns-2)

@@ -37,8 +37,8 @@ mul-place c = search needs
 array-copy-out-place : tie.Need-array-copy-out-place Inv-loop μ-loop
 array-copy-out-place c = search needs
 
-name-requires : tie.Need-name-requires Inv-loop μ-loop
-name-requires c κs = search needs
+print-place-requires : tie.Need-print-place-requires Inv-loop μ-loop
+print-place-requires c κs = search needs
 
 slice-aggregate-say-2 : tie.Need-slice-aggregate-say-2 Inv-loop μ-loop
 slice-aggregate-say-2 c = search needs
@@ -97,7 +97,7 @@ print-spec =
     loop-holds
     mul-place
     array-copy-out-place
-    name-requires
+    print-place-requires
     slice-aggregate-say-2
     say-requires-2
     score-requires

@@ -5,16 +5,13 @@ use Rattle.replies.proofs.starts.all_agree.Statement.{statement}
 use Rattle.replies.proofs.starts.all_agree.Tie as tie
 
 abbrev Inv-loop : tie.InvT-loop
-Inv-loop bits places some-places idle-places agree₀ rest₀ k₀ agree rest k = k ≤ 8
+Inv-loop bits front some-front places some-places idle-places rest₀ k₀ rest k = k ≤ 8
 
 abbrev μ-loop : tie.MeasureT-loop
-μ-loop bits places some-places idle-places agree₀ rest₀ k₀ agree rest k = 8 - k
+μ-loop bits front some-front places some-places idle-places rest₀ k₀ rest k = 8 - k
 
 start-requires : tie.Need-start-requires Inv-loop μ-loop
 start-requires c κs = search needs
-
-same-front-requires : tie.Need-same-front-requires Inv-loop μ-loop
-same-front-requires c κs = search needs
 
 loop-holds : tie.Need-loop-holds Inv-loop μ-loop
 loop-holds c = search needs
@@ -40,8 +37,8 @@ array-copy-out-idle c = search needs
 agrees-requires : tie.Need-agrees-requires Inv-loop μ-loop
 agrees-requires c κs = search needs
 
-both-requires : tie.Need-both-requires Inv-loop μ-loop
-both-requires c κs = search needs
+returns : tie.Need-returns Inv-loop μ-loop
+returns c = search needs
 
 add-k : tie.Need-add-k Inv-loop μ-loop
 add-k c = search needs
@@ -52,8 +49,11 @@ loop-less c = search needs
 loop-again : tie.Need-loop-again Inv-loop μ-loop
 loop-again c = search needs
 
-returns : tie.Need-returns Inv-loop μ-loop
-returns c = search needs
+same-front-requires : tie.Need-same-front-requires Inv-loop μ-loop
+same-front-requires c κs = search needs
+
+returns-2 : tie.Need-returns-2 Inv-loop μ-loop
+returns-2 c = search needs
 
 pub all-agree-spec : {M : Type 1} → statement M
 all-agree-spec =
@@ -62,7 +62,6 @@ all-agree-spec =
     Inv-loop
     μ-loop
     start-requires
-    same-front-requires
     loop-holds
     mul-place
     array-copy-out-place
@@ -71,8 +70,9 @@ all-agree-spec =
     mul-idle
     array-copy-out-idle
     agrees-requires
-    both-requires
+    returns
     add-k
     loop-less
     loop-again
-    returns)
+    same-front-requires
+    returns-2)

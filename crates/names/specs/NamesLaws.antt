@@ -1,0 +1,16 @@
+-- The last name, whatever the number above. Assumes nothing.
+use mathlib.Core.Path.{_≡_, refl}
+use Prim.Native.Nat.{ℕ, zero, suc}
+use Rattle.names.specs.Names.{placeName}
+use Rattle.scribe.specs.Text.{ascii}
+
+pub last-name : (k : ℕ) → (k ≡ 0 → ⊥) → (k ≡ 1 → ⊥) → (k ≡ 2 → ⊥) → (k ≡ 3 → ⊥) → (k ≡ 4 → ⊥) → (k ≡ 5 → ⊥) → (k ≡ 6 → ⊥) → ascii "arabic-french" ≡ placeName k
+unfolding placeName
+last-name zero a b c d e f g = absurd (a refl)
+last-name (suc zero) a b c d e f g = absurd (b refl)
+last-name (suc (suc zero)) a b c d e f g = absurd (c refl)
+last-name (suc (suc (suc zero))) a b c d e f g = absurd (d refl)
+last-name (suc (suc (suc (suc zero)))) a b c d e f g = absurd (e refl)
+last-name (suc (suc (suc (suc (suc zero))))) a b c d e f g = absurd (f refl)
+last-name (suc (suc (suc (suc (suc (suc zero)))))) a b c d e f g = absurd (g refl)
+last-name (suc (suc (suc (suc (suc (suc (suc k))))))) a b c d e f g = refl
