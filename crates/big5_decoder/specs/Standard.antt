@@ -1,5 +1,5 @@
 -- The Encoding Standard's Big5 decoder: what it has of its own in the frame of the pair decoders. Assumes nothing.
-use mathlib.Core.Bool.{Bool, cond, _&&_, _||_}
+use mathlib.Core.Bool.{Bool, true, cond, _&&_, _||_}
 use mathlib.Core.List.{List}
 use Prim.Native.Nat.{ℕ}
 use lib.Dec.{ltb, eqb}
@@ -27,9 +27,9 @@ layout = record { is-trail = isTrail; offset = offsetOf; row = 157 }
 abbrev pub pointerOf : ℕ → ℕ → ℕ
 pointerOf lead b = pointer layout lead b
 
--- plane two beside what the other indexes have
+-- the index has plane two
 abbrev pub isMapped : ℕ → Bool
-isMapped entry = entries.isMapped entry || between 0x20000 0x2FFFF entry
+isMapped entry = entries.isMapped true entry
 
 module _ (index : List ℕ) where
   -- four pointers stand for two code points before the index is asked

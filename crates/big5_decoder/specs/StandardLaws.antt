@@ -58,7 +58,7 @@ firstUnit point = 0xD800 + (point - 0x10000) / 0x400
 
 pub pair-first : (point : ℕ) → isMapped point ≡ true → 0x10000 ≤ point → (0xD840 ≤ firstUnit point) × (firstUnit point ≤ 0xD87F)
 pair-first point e h = plane-two (between 0x80 0xD7FF point) (between 0xE000 0xFFFF point) refl refl e where
-  plane-two : (a b : Bool) → between 0x80 0xD7FF point ≡ a → between 0xE000 0xFFFF point ≡ b → ((a || b) || between 0x20000 0x2FFFF point) ≡ true → (0xD840 ≤ firstUnit point) × (firstUnit point ≤ 0xD87F)
+  plane-two : (a b : Bool) → between 0x80 0xD7FF point ≡ a → between 0xE000 0xFFFF point ≡ b → (a || (b || between 0x20000 0x2FFFF point)) ≡ true → (0xD840 ≤ firstUnit point) × (firstUnit point ≤ 0xD87F)
   plane-two true b p q r = let x = range-true 0x80 0xD7FF point p in absurd (omega arith)
   plane-two false true p q r = let x = range-true 0xE000 0xFFFF point q in absurd (omega arith)
   plane-two false false p q r = let x = range-true 0x20000 0x2FFFF point r in (omega arith, omega arith)

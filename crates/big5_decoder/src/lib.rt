@@ -1,7 +1,7 @@
 // The Standard's Big5 decoder over a lent index, one byte.
 ghost use mathlib.Core.Path.{_≡_};
 ghost use mathlib.Core.Bool.{true};
-ghost use Rattle.big5_decoder.specs.Standard.{isTrail, pointerOf, isMapped, entryOf, pairOf, decodeOf, replyOf};
+ghost use Rattle.big5_decoder.specs.Standard.{isTrail, pointerOf, entryOf, pairOf, decodeOf, replyOf};
 use pairs::Decoded;
 use pairs::Event;
 use pairs::Reply;
@@ -32,25 +32,12 @@ fn pointer(lead: u8, b: u8) -> usize
     row + (b - 0x62) as usize
 }
 
-// Plane two beside what the other indexes have.
-fn is_mapped(entry: u32) -> bool
-    ensures { λ r. ⌜ r ≡ isMapped entry ⌝ }
-{
-    if entries::is_mapped(entry) {
-        return true;
-    }
-    if entry < 0x20000 {
-        return false;
-    }
-    entry < 0x30000
-}
-
 // What stands at a pointer of the index.
 fn looked_up(at: usize, b: u8, index: &[u32]) -> Event
     ensures { λ r. ⌜ r ≡ entryOf (now (index .entry)) at b ⌝ }
 {
     let entry = entries::entry(index, at);
-    if is_mapped(entry) {
+    if entries::is_mapped(entry, true) {
         return Event::Point(entry);
     }
     pairs::malformed(b)

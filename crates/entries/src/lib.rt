@@ -13,9 +13,9 @@ pub fn entry(index: &[u32], at: usize) -> u32
     0
 }
 
-// Whether an entry is a code point.
-pub fn is_mapped(entry: u32) -> bool
-    ensures { λ r. ⌜ r ≡ isMapped entry ⌝ }
+// Whether an entry is a code point, of an index that has plane two beside the first or not.
+pub fn is_mapped(entry: u32, plane_two: bool) -> bool
+    ensures { λ r. ⌜ r ≡ isMapped «plane_two» entry ⌝ }
 {
     if entry < 0x80 {
         return false;
@@ -26,5 +26,14 @@ pub fn is_mapped(entry: u32) -> bool
     if entry < 0xE000 {
         return false;
     }
-    entry <= 0xFFFF
+    if entry < 0x10000 {
+        return true;
+    }
+    if !plane_two {
+        return false;
+    }
+    if entry < 0x20000 {
+        return false;
+    }
+    entry <= 0x2FFFF
 }

@@ -13,7 +13,6 @@ use Rattle.laws.specs.Run.{Outcome, live, plus, plus-plus, feed, run, run-plus}
 use Rattle.laws.specs.Still.{Lives}
 use Rattle.octets.specs.Octets.{between}
 use Rattle.laws.specs.Handler.{after as lead-after}
-use Rattle.entries.specs.Entries.{isMapped}
 use Rattle.pairs.specs.Pairs.{isLead, decoded}
 use Rattle.pairs.specs.Standard.{first}
 use Rattle.pairs.specs.Events.{eventOf}
@@ -22,7 +21,7 @@ use Rattle.pairs.specs.SequencesLaws.{first-lead, pair-seen}
 use Rattle.pairs.specs.declared.Event.the-variants.{Pending, Point}
 use Rattle.pairs.specs.declared.Held.{Held}
 use Rattle.pairs.specs.declared.Held.the-variants.{Nothing, Score}
-use Rattle.euckr_decoder.specs.Standard.{isTrail, layout, pointerOf, pointsOf, pairOf, decodeOf}
+use Rattle.euckr_decoder.specs.Standard.{isTrail, layout, pointerOf, isMapped, pointsOf, pairOf, decodeOf}
 use Rattle.euckr_decoder.specs.StandardLaws.{mapped-pair}
 use Rattle.euckr.specs.Scoring.{extraOf, isEuc, isHangul, hangulAfter, longOf, scored, holdsOf, aroundOf, innerOf, outerOf, hangulOf, otherOf, unitOf, extensionOf, after, strayOf, errorOf, freshOf, Lent, lent, stepOf}
 use Rattle.euckr.specs.Ways.{step-on}

@@ -1,12 +1,12 @@
 -- The Encoding Standard's EUC-KR decoder: what it has of its own in the frame of the pair decoders. Assumes nothing.
-use mathlib.Core.Bool.{Bool, cond, _&&_}
+use mathlib.Core.Bool.{Bool, false, cond, _&&_}
 use mathlib.Core.List.{List}
 use Prim.Native.Nat.{ℕ}
 use lib.Dec.{eqb}
 use lib.ListN.{length}
 use Rattle.octets.specs.Octets.{between}
 use Rattle.lengths.specs.Lengths.{eucKrCount}
-use Rattle.entries.specs.Entries.{isMapped}
+use Rattle.entries.specs.Entries as entries
 use Rattle.pairs.specs.Pairs.{isLeadOrNone}
 use Rattle.pairs.specs.Standard.{CodePoints, Layout, pointer, indexed, next}
 use Rattle.pairs.specs.Events.{eventOf, seenBy}
@@ -23,6 +23,9 @@ layout = record { is-trail = isTrail; offset = λ b. 0x41; row = 190 }
 
 abbrev pub pointerOf : ℕ → ℕ → ℕ
 pointerOf lead b = pointer layout lead b
+
+abbrev pub isMapped : ℕ → Bool
+isMapped entry = entries.isMapped false entry
 
 module _ (index : List ℕ) where
   abbrev pub pointsOf : ℕ → CodePoints

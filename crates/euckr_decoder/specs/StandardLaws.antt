@@ -7,7 +7,6 @@ use native.Mathlib.Omega.{arith}
 use lib.ListN.{getD}
 use Rattle.laws.specs.Lists.{count}
 use Rattle.lengths.specs.Lengths.{eucKrCount}
-use Rattle.entries.specs.Entries.{isMapped}
 use Rattle.pairs.specs.Pairs.{isLead}
 use Rattle.pairs.specs.Ranges.{range-true}
 use Rattle.pairs.specs.Places.{numbers, those, placeOf}
@@ -17,7 +16,7 @@ use Rattle.pairs.specs.Sequences.{Yields, Reads}
 use Rattle.pairs.specs.SequencesLaws.{yields-reads, reads-yields}
 use Rattle.pairs.specs.declared.Event.{Event}
 use Rattle.pairs.specs.declared.Event.the-variants.{Point}
-use Rattle.euckr_decoder.specs.Standard.{isTrail, layout, pointerOf, pointsOf, pairOf}
+use Rattle.euckr_decoder.specs.Standard.{isTrail, layout, pointerOf, isMapped, pointsOf, pairOf}
 use Rattle.euckr_decoder.specs.Ways.{pair-mapped}
 
 -- ---- pointers: the place by lead and then by trail, in the index, and no two the same

@@ -4,11 +4,10 @@ use mathlib.Core.Bool.{true, false}
 use mathlib.Core.List.{List}
 use Prim.Native.Nat.{ℕ}
 use lib.ListN.{getD}
-use Rattle.entries.specs.Entries.{isMapped}
 use Rattle.pairs.specs.Standard.{indexed, returned}
 use Rattle.pairs.specs.Events.{pointsAs, eventOf, malformedOf}
 use Rattle.pairs.specs.declared.Event.the-variants.{Point}
-use Rattle.euckr_decoder.specs.Standard.{isTrail, pointerOf, pairOf}
+use Rattle.euckr_decoder.specs.Standard.{isTrail, pointerOf, isMapped, pairOf}
 
 -- what was read at the pointer
 module _ (index : List ℕ) (lead b at entry : ℕ) where

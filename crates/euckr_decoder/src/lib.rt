@@ -28,7 +28,7 @@ fn pair(lead: u8, b: u8, index: &[u32]) -> Event
 {
     if is_trail(b) {
         let entry = entries::entry(index, pointer(lead, b));
-        if entries::is_mapped(entry) {
+        if entries::is_mapped(entry, false) {
             return Event::Point(entry);
         }
     }

@@ -65,7 +65,7 @@ soundB m = leadInB (m .state) (m .lead)
 -- ---- the lent index
 -- whether the index has a code point at a pointer
 abbrev pub indexedBy : List ℕ → ℕ → Bool
-indexedBy index pointer = isMapped (getD index pointer 0)
+indexedBy index pointer = isMapped false (getD index pointer 0)
 
 -- ---- one byte
 abbrev pub escapeByte : ℕ

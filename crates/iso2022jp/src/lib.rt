@@ -244,7 +244,7 @@ impl Iso2022Jp {
             return Stepped::Invalid;
         }
         let at = (self.lead - 0x21) as usize * 94 + (b - 0x21) as usize;
-        if entries::is_mapped(index[at]) {
+        if entries::is_mapped(index[at], false) {
             let out = self.out;
             return Stepped::Alive(
                 Iso2022Jp {
