@@ -2,6 +2,7 @@
 ghost use Prim.Native.Nat.{_<_, _≤_};
 ghost use lib.ListN.{length};
 use libc::STDIN_FILENO;
+use reader::number;
 
 fn wide(b: u8) -> usize
     ensures { λ r. ⌜ r < 256 ⌝ }
@@ -16,6 +17,15 @@ pub(crate) fn byte() -> usize {
         return 256;
     }
     wide(one[0])
+}
+
+// The length of a stream, or one past the longest at the input's end.
+pub(crate) fn length() -> usize {
+    let mut size = [0u8; 4];
+    if io::read_full(STDIN_FILENO, &mut size) != 4 {
+        return 65537;
+    }
+    number::four(&size, 0) as usize
 }
 
 // The next bytes, into the beginning of a buffer: how many there were.

@@ -20,7 +20,6 @@ use lengths::WEIGHTS;
 use libc::STDIN_FILENO;
 use libc::STDOUT_FILENO;
 use place::Place;
-use reader::number;
 use tables::INDEXES;
 use tables::SCORES;
 
@@ -118,11 +117,12 @@ fn run_stream(
     show(command, end);
 }
 
-// A short stream, read from standard input: filling a small buffer takes little time.
-fn read_short(
+// A stream of so many bytes, read from standard input into the buffer.
+fn read_into(
+    buffer: &mut [u8],
+    len: usize,
     start: Place,
     command: usize,
-    len: usize,
     close: bool,
     classes: &[u8],
     marks: &[u8],
@@ -130,13 +130,12 @@ fn read_short(
     weights: &[i32],
     index: &[u32],
 ) -> bool
-    requires { ⌜ len ≤ 256 ⌝ }
+    requires { ⌜ len ≤ length (now buffer) ⌝ }
 {
-    let mut bytes = [0u8; 256];
-    if input::part(&mut bytes, len) < len {
+    if input::part(buffer, len) < len {
         return false;
     }
-    let part = &bytes[0..len];
+    let part = &buffer[0..len];
     run_stream(
         start,
         command,
@@ -151,38 +150,7 @@ fn read_short(
     true
 }
 
-fn read_long(
-    start: Place,
-    command: usize,
-    len: usize,
-    close: bool,
-    classes: &[u8],
-    marks: &[u8],
-    scores: &[i16],
-    weights: &[i32],
-    index: &[u32],
-) -> bool
-    requires { ⌜ len ≤ 65536 ⌝ }
-{
-    let mut bytes = [0u8; 65536];
-    if input::part(&mut bytes, len) < len {
-        return false;
-    }
-    let part = &bytes[0..len];
-    run_stream(
-        start,
-        command,
-        part,
-        close,
-        classes,
-        marks,
-        scores,
-        weights,
-        index,
-    );
-    true
-}
-
+// Filling a small buffer takes little time, and most streams are short.
 fn read_stream(
     start: Place,
     command: usize,
@@ -193,19 +161,17 @@ fn read_stream(
     index: &[u32],
 ) -> bool {
     let close = input::byte() == 1;
-    let mut size = [0u8; 4];
-    if io::read_full(STDIN_FILENO, &mut size) != 4 {
-        return false;
-    }
-    let len = number::four(&size, 0) as usize;
+    let len = input::length();
     if 65536 < len {
         return false;
     }
     if len < 256 {
-        return read_short(
+        let mut short = [0u8; 256];
+        return read_into(
+            &mut short,
+            len,
             start,
             command,
-            len,
             close,
             classes,
             marks,
@@ -214,10 +180,12 @@ fn read_stream(
             index,
         );
     }
-    read_long(
+    let mut long = [0u8; 65536];
+    read_into(
+        &mut long,
+        len,
         start,
         command,
-        len,
         close,
         classes,
         marks,
