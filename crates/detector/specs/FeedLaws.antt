@@ -12,29 +12,25 @@ use Rattle.laws.specs.Limit.{limit}
 use Rattle.laws.specs.Lists.{count, count-append}
 use Rattle.context.specs.Context.{bytesOf}
 use Rattle.context.specs.ContextLaws.{bytes-most}
-use Rattle.context.specs.declared.Context.{Context}
-use Rattle.context.specs.Head.{nonAsciiCount}
-use Rattle.tables.specs.Tables.{Tables, Sized, sizedB}
+use Rattle.tables.specs.Tables.{Tables, sizedB}
 use Rattle.tables.specs.TablesLaws.{sized-true}
 use Rattle.places.specs.Order.{SlateFor}
-use Rattle.places.specs.Slate.{feedAll, slated, slatedOf}
+use Rattle.places.specs.Slate.{feedAll, slatedOf}
 use Rattle.places.specs.Kept.{AllKept, KeptIf}
-use Rattle.places.specs.SlateLaws.{slated-fit, fed-kept, feed-all-nil, nil-kept, fed-slate, slate-more, slate-still}
+use Rattle.places.specs.SlateLaws.{slated-fit, fed-kept, feed-all-nil, nil-kept, fed-slate, slate-still}
 use Rattle.places.specs.declared.place.Place.{Place}
 use Rattle.places.specs.declared.slate.Slated.{Slated}
 use Rattle.detector.specs.Feed.{verdictOf, refusalOf, placesBy, advanceOf, fed, accepted, feedBy, feedOf}
 use Rattle.detector.specs.Kept.{Fit, StaysIn}
 use Rattle.state.specs.State.{flagOf, triggered}
-use Rattle.detector.specs.Front.{triggerOf, Reaches, none, some, reachesBy, reachesOf, bytesIn, counted, uncounted, frontOf}
+use Rattle.detector.specs.Front.{triggerOf, Reaches, none, some, reachesOf, bytesIn, counted, uncounted}
 use Rattle.detector.specs.Due.{dueAs, DueBy}
 use Rattle.detector.specs.FrontLaws.{plain-count}
 use Rattle.state.specs.Order.{InOrder, stateB}
 use Rattle.state.specs.OrderLaws.{order-true}
 use Rattle.detector.specs.OrderLaws.{KeptBy, advance-in-order}
-use Rattle.detector.specs.declared.feed.Fed.{Fed}
 use Rattle.state.specs.declared.reply.Reply.{Reply}
-use Rattle.state.specs.declared.reply.Reply.the-variants.{Accepted, Closed, WrongLength, TooLong, NotInOrder}
-use Rattle.detector.specs.declared.feed.Verdict.{Verdict}
+use Rattle.state.specs.declared.reply.Reply.the-variants.{Closed, WrongLength, TooLong, NotInOrder}
 use Rattle.detector.specs.declared.feed.Verdict.the-variants.{Accept, Refuse}
 use Rattle.detector.specs.declared.front.Due.{Due}
 use Rattle.detector.specs.declared.front.Due.the-variants.{Nothing, Part, After}

@@ -1,17 +1,16 @@
 -- Laws of the front end: what the code's offsets stand for, and what the saved context and the counts come to. Assumes nothing.
-use mathlib.Core.Path.{_≡_, refl, sym, ap, _∙_}
-use mathlib.Core.Bool.{Bool, true, false, cond, not, _&&_, _||_}
+use mathlib.Core.Path.{_≡_, refl, ap, _∙_}
+use mathlib.Core.Bool.{Bool, true, false, cond}
 use mathlib.Core.List.{List, [], _∷_, _++_}
 use Prim.Native.Nat.{ℕ, zero, suc, _+_, _-_, _<_, _≤_}
-use native.Mathlib.Nat.{not-suc-le-zero, le-of-suc-le-suc}
 use native.Mathlib.Omega.{arith}
-use lib.Dec.{eqb, leb, ltb}
+use lib.Dec.{eqb, ltb}
 use lib.ListN.{length, getD, take, drop, length-take, length-drop, length-append}
 use lib.Seq.{getD-drop}
-use borrow.Author.Tests.{lt-ltb, le-ltb, ltb-true}
+use borrow.Author.Tests.{lt-ltb, le-ltb}
 use Rattle.laws.specs.Lists.{any, count, last, any-append, any-drop, count-append, count-most, count-some, last-length}
 use Rattle.laws.specs.Tests.{neither, either}
-use Rattle.octets.specs.Octets.{ascii, nonAscii}
+use Rattle.octets.specs.Octets.{nonAscii}
 use Rattle.context.specs.Context.{bytesOf, contextOf, pushOf}
 use Rattle.context.specs.ContextLaws.{bytes-most, push-bytes}
 use Rattle.context.specs.Head.{escape, isTrigger, scanOf, nonAsciiCount}
@@ -19,8 +18,8 @@ use Rattle.context.specs.HeadLaws.{First, FirstAt, scan-first}
 use Rattle.context.specs.declared.Context.{Context}
 use Rattle.context.specs.declared.Scanned.{Scanned}
 use Rattle.context.specs.declared.Scanned.the-variants as scanned
-use Rattle.state.specs.State.{flagOf, triggered}
-use Rattle.detector.specs.Front.{foundAs, triggerOf, Reaches, none, some, reachesAt, reachesBy, bytesIn, contextAt, contextBy, escBy}
+use Rattle.state.specs.State.{triggered}
+use Rattle.detector.specs.Front.{foundAs, triggerOf, Reaches, some, reachesAt, reachesBy, bytesIn, contextAt}
 use Rattle.detector.specs.Due.{dueAs, DueAt, DueBy, offsetOf, Here, WithinAt, WithinBy}
 use Rattle.state.specs.Order.{Saved}
 use Rattle.detector.specs.declared.front.Due.{Due}

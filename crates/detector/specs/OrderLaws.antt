@@ -1,20 +1,19 @@
 -- What an accepted chunk leaves is in order. Assumes nothing.
-use mathlib.Core.Path.{_≡_, refl, sym, ap, subst, _∙_}
-use mathlib.Core.Bool.{Bool, true, false, cond, not, _&&_, _||_}
-use mathlib.Core.List.{List, [], _∷_, _++_}
-use Prim.Native.Nat.{ℕ, zero, suc, _+_, _-_, _<_, _≤_}
-use native.Mathlib.Nat.{add-zero, zero-add}
+use mathlib.Core.Path.{_≡_, refl, sym}
+use mathlib.Core.Bool.{Bool, true, false, cond, not, _||_}
+use mathlib.Core.List.{List, []}
+use Prim.Native.Nat.{ℕ, _+_, _-_, _<_, _≤_}
+use native.Mathlib.Nat.{add-zero}
 use native.Mathlib.Omega.{arith}
-use lib.Dec.{eqb, leb, ltb}
-use lib.ListN.{length, take, drop, length-take, length-drop}
+use lib.Dec.{ltb}
+use lib.ListN.{length, drop, length-take, length-drop}
 use borrow.Author.Tests.{lt-ltb, ltb-true}
 use Rattle.laws.specs.Limit.{limit}
 use Rattle.laws.specs.Lists.{any, count, count-most}
 use Rattle.laws.specs.Tests.{either}
-use Rattle.octets.specs.Octets.{ascii, nonAscii}
-use Rattle.context.specs.Context.{bytesOf, contextOf}
-use Rattle.context.specs.ContextLaws.{bytes-most}
-use Rattle.context.specs.Head.{escape, isTrigger, scanOf, nonAsciiCount}
+use Rattle.octets.specs.Octets.{nonAscii}
+use Rattle.context.specs.Context.{bytesOf}
+use Rattle.context.specs.Head.{isTrigger, scanOf, nonAsciiCount}
 use Rattle.context.specs.HeadLaws.{FirstAt}
 use Rattle.context.specs.declared.Context.{Context}
 use Rattle.context.specs.declared.Scanned.{Scanned}
@@ -23,12 +22,12 @@ use Rattle.tables.specs.Tables.{Tables}
 use Rattle.places.specs.Order.{SlateFor}
 use Rattle.places.specs.Slate.{feedAll}
 use Rattle.places.specs.Kept.{AllKept}
-use Rattle.places.specs.SlateLaws.{slate-more, slate-still, fed-slate, nil-kept}
+use Rattle.places.specs.SlateLaws.{slate-more, slate-still, fed-slate}
 use Rattle.places.specs.declared.place.Place.{Place}
 use Rattle.detector.specs.Feed.{placesBy, advanceOf}
 use Rattle.detector.specs.Kept.{Fit}
 use Rattle.state.specs.State.{triggered}
-use Rattle.detector.specs.Front.{foundAs, triggerOf, Reaches, none, some, reachesAt, reachesBy, reachesOf, bytesIn, contextAt, contextBy, escBy, counted, uncounted, frontOf}
+use Rattle.detector.specs.Front.{foundAs, triggerOf, Reaches, none, some, reachesAt, reachesBy, reachesOf, bytesIn, contextAt, contextBy, escBy, counted, uncounted}
 use Rattle.detector.specs.FrontLaws.{push-len, push-saved, no-trigger, escape-at, non-ascii-at, at-most, at-least}
 use Rattle.state.specs.OrderLaws.{empty-saved}
 use Rattle.state.specs.Order.{Saved, FrontFor, InOrder}

@@ -1,32 +1,29 @@
 -- Which bytes reach the places over a whole stream, however it is cut; and the non-ASCII count is that of the stream. Assumes nothing.
 use mathlib.Core.Path.{_≡_, refl, sym, ap, _∙_}
-use mathlib.Core.Bool.{Bool, true, false, cond, _||_}
+use mathlib.Core.Bool.{Bool, true, false, _||_}
 use mathlib.Core.List.{List, [], _∷_, _++_, append-nil, append-assoc, flatten}
-use mathlib.Core.Logic.{_⊎_, inl, inr}
-use Prim.Native.Nat.{ℕ, suc, _+_, _-_, _<_, _≤_}
+use mathlib.Core.Logic.{inl, inr}
+use Prim.Native.Nat.{ℕ, _+_, _-_, _<_, _≤_}
 use native.Mathlib.Nat.{add-zero, zero-add}
 use native.Mathlib.Omega.{arith}
 use lib.Dec.{eqb, ltb}
-use lib.ListN.{length, getD, take, drop, length-take, length-drop, length-append, take-append-drop}
-use lib.Seq.{drop-cons, drop-append-le, drop-append-add}
+use lib.ListN.{length, getD, take, drop, length-take, length-append, take-append-drop}
+use lib.Seq.{drop-cons, drop-append-le}
 use borrow.Author.Tests.{lt-ltb, ltb-true, ltb-false, eq-eqb}
 use Rattle.laws.specs.Lists.{any, count, last, any-append, any-drop, count-append, last-append, last-length}
 use Rattle.octets.specs.Octets.{nonAscii}
-use Rattle.context.specs.Context.{bytesOf, contextOf, pushOf}
+use Rattle.context.specs.Context.{contextOf}
 use Rattle.context.specs.ContextLaws.{bytes-context, push-context}
 use Rattle.context.specs.Head.{escape, isTrigger, scanOf, nonAsciiCount}
-use Rattle.context.specs.HeadLaws.{First, FirstAt, scan-first}
-use Rattle.context.specs.declared.Context.{Context}
+use Rattle.context.specs.HeadLaws.{FirstAt, scan-first}
 use Rattle.context.specs.declared.Scanned.{Scanned}
 use Rattle.context.specs.declared.Scanned.the-variants as scanned
-use Rattle.state.specs.State.{fresh, flagOf, triggered}
-use Rattle.detector.specs.Front.{foundAs, triggerOf, Reaches, none, some, reachesAt, reachesBy, reachesOf, bytesIn, contextBy, escBy, frontOf}
+use Rattle.state.specs.State.{fresh, triggered}
+use Rattle.detector.specs.Front.{foundAs, triggerOf, reachesAt, reachesBy, reachesOf, bytesIn, contextBy, escBy, frontOf}
 use Rattle.detector.specs.FrontLaws.{plain-count, no-trigger, non-ascii-at, at-least}
 use Rattle.state.specs.Order.{Saved}
-use Rattle.detector.specs.Stream.{frontAfter, reachedBy, Begins, FromHead, Reached}
+use Rattle.detector.specs.Stream.{frontAfter, reachedBy, FromHead, Reached}
 use Rattle.state.specs.declared.front.Front.{Front}
-use Rattle.detector.specs.declared.front.Trigger.{Trigger}
-use Rattle.detector.specs.declared.front.Trigger.the-variants.{Earlier, Escape, NonAscii, Nowhere}
 
 -- ---- after a trigger all chunks whole
 grown : (e : Bool) (n k : ℕ) → (e || ltb 0 n) ≡ true → (e || ltb 0 (n + k)) ≡ true

@@ -1,9 +1,6 @@
 // A chunk of a stream, and what is replied.
 ghost use mathlib.Core.Bool.{false};
 ghost use mathlib.Core.Path.{_≡_};
-ghost use Prim.Native.Nat.{_+_, _≤_};
-ghost use lib.ListN.{length};
-ghost use Rattle.laws.specs.Limit.{limit};
 ghost use Rattle.tables.specs.Tables.{tables};
 ghost use Rattle.state.specs.Order.{InOrder};
 ghost use Rattle.detector.specs.Feed.{verdictOf, accepted, advanceOf, feedOf};

@@ -1,10 +1,10 @@
 -- The test of what a machine can hold decides; fresh machines pass it; runs and closes keep it. Assumes nothing.
-use mathlib.Core.Path.{_≡_, refl, sym, ap, _∙_}
-use mathlib.Core.Bool.{Bool, true, false, cond, _&&_, and-false}
+use mathlib.Core.Path.{_≡_, refl}
+use mathlib.Core.Bool.{Bool, true, false, and-false}
 use mathlib.Core.List.{List}
 use Prim.Native.Nat.{ℕ, _+_, _≤_}
 use native.Mathlib.Omega.{arith}
-use lib.Dec.{eqb, leb, ltb}
+use lib.Dec.{eqb, ltb}
 use lib.IntN.{ℤ, pos}
 use lib.ListN.{length}
 use borrow.Author.Tests.{leb-true, le-leb}
@@ -27,7 +27,6 @@ use Rattle.single.specs.Class.{space, alphabetic}
 use Rattle.single.specs.ClassLaws.{live-is}
 use Rattle.single.specs.Fit.{Common}
 use Rattle.single.specs.Lent.{Lent}
-use Rattle.single.specs.Punctuation.{countOf}
 use Rattle.single.specs.Words.{longestOf}
 use Rattle.caseless.specs.Caseless as caseless
 use Rattle.caseless.specs.CaselessLaws as caseless-laws
@@ -45,7 +44,7 @@ use Rattle.utf8.specs.Utf8 as utf-8
 use Rattle.utf8.specs.Utf8Laws as utf-8-laws
 use Rattle.kinds.specs.Kinds.{freshIn, stepOf, closeOf, WeighedIn}
 use Rattle.kinds.specs.KindsLaws.{run-utf-8, run-iso2022jp, run-euckr, run-big5, run-caseless, run-logical, run-visual, run-arabicFrench, utf-8-still, iso2022jp-still}
-use Rattle.kinds.specs.Sound.{takesSpace, reachOf, SoundFor, soundLogicalB, soundB}
+use Rattle.kinds.specs.Sound.{reachOf, SoundFor, soundLogicalB, soundB}
 use Rattle.tables.specs.Own.{Own, lentTo}
 use Rattle.kinds.specs.declared.machine.Machine.{Machine}
 use Rattle.kinds.specs.declared.machine.Machine.the-variants.{Utf8, Iso2022Jp, EucKr, Big5, Caseless, Logical, Visual, ArabicFrench}

@@ -1,18 +1,18 @@
 -- The test of the places decides, and places stay in order. Assumes nothing.
-use mathlib.Core.Path.{_≡_, refl, sym, ap, subst, _∙_}
+use mathlib.Core.Path.{_≡_, refl, sym, ap, _∙_}
 use mathlib.Core.Bool.{Bool, true, false, cond, _&&_, _||_}
 use mathlib.Core.List.{List}
 use Prim.Native.Nat.{ℕ, _+_, _*_, _<_, _≤_}
 use native.Mathlib.Nat.{mul-le-mul-left}
 use native.Mathlib.Omega.{arith}
-use lib.Dec.{eqb, leb}
-use lib.IntN.{ℤ, pos, negsuc, natAbs, _+ℤ_}
+use lib.Dec.{eqb}
+use lib.IntN.{ℤ, pos, negsuc, natAbs}
 use lib.ListN.{length, getD, drop, length-drop}
 use borrow.Author.Tests.{eqb-true, eq-eqb, leb-true, le-leb, lt-leb}
 use Rattle.laws.specs.Carried.{carried, Holds}
-use Rattle.laws.specs.Each.{eachB, EachFrom, each-true, true-each, each-turn, each-stop, each-done}
+use Rattle.laws.specs.Each.{eachB, each-true, true-each, each-turn, each-stop, each-done}
 use Rattle.laws.specs.Limit.{limit}
-use Rattle.laws.specs.Run.{Outcome, none, live, plus, run, ended}
+use Rattle.laws.specs.Run.{Outcome, none, live, plus, run}
 use Rattle.laws.specs.Sizes.{abs-add}
 use Rattle.laws.specs.Still.{Ends, from-zero}
 use Rattle.laws.specs.Tests.{both, either}
@@ -23,18 +23,17 @@ use Rattle.euckr.specs.EucKr as euckr
 use Rattle.euckr.specs.declared.EucKr.{EucKr as EucKrRecord}
 use Rattle.iso2022jp.specs.Iso2022Jp as iso2022jp
 use Rattle.utf8.specs.Utf8 as utf-8
-use Rattle.records.specs.Fresh.{freshB}
 use Rattle.records.specs.FreshLaws.{fresh-true, true-fresh}
 use Rattle.kinds.specs.KindLaws.{Alike, fresh-alike, alike-kind, alike-reach, reach-open, run-alike, close-alike}
 use Rattle.kinds.specs.Kinds.{kindOf, freshIn, stepOf, closeOf, WeighedIn}
 use Rattle.kinds.specs.KindsLaws.{utf-8-still, iso2022jp-still}
-use Rattle.kinds.specs.Sound.{takesSpace, reachOf, SoundFor, soundB}
+use Rattle.kinds.specs.Sound.{takesSpace, reachOf, SoundFor}
 use Rattle.kinds.specs.SoundLaws.{sound-true, true-sound, sound-more, fresh-sound, run-sound, close-sound}
 use Rattle.tables.specs.Own.{Own}
 use Rattle.kinds.specs.declared.machine.Machine.{Machine}
 use Rattle.kinds.specs.declared.machine.Machine.the-variants.{Utf8, Iso2022Jp, EucKr, Big5, Caseless, Logical, Visual, ArabicFrench}
 use Rattle.places.specs.Order.{ScoredFor, ZeroOrNone, FedOr, PlaceFor, SlateFor, scoredB, zeroOrNoneB, unfedB, placeB, slateB}
-use Rattle.places.specs.Place.{place, placeAs, partOf, fedFrom, feedOf}
+use Rattle.places.specs.Place.{place, placeAs}
 use Rattle.places.specs.Steps.{endFrom, endOf}
 use Rattle.places.specs.declared.place.Place.{Place}
 use Rattle.places.specs.declared.place.Score.{Score}

@@ -1,11 +1,11 @@
 -- Each way through feeding a place, and that it stays in order. Assumes nothing.
 use mathlib.Core.Path.{_≡_, refl, sym, ap, subst, _∙_}
-use mathlib.Core.Bool.{Bool, true, false, cond}
+use mathlib.Core.Bool.{Bool, true, false}
 use mathlib.Core.List.{List, []}
 use Prim.Native.Nat.{ℕ, _+_, _*_, _^_, _<_, _≤_}
 use native.Mathlib.Nat.{mul-le-mul-left}
 use native.Mathlib.Omega.{arith}
-use lib.IntN.{ℤ, pos, natAbs, _+ℤ_}
+use lib.IntN.{ℤ, pos, natAbs}
 use lib.ListN.{length}
 use Rattle.laws.specs.Carried.{Holds}
 use Rattle.laws.specs.Limit.{limit}
@@ -22,11 +22,11 @@ use Rattle.tables.specs.Own.{Own, SizedAt}
 use Rattle.kinds.specs.declared.machine.Machine.{Machine}
 use Rattle.kinds.specs.declared.machine.Ran.{Ran as MachineRan}
 use Rattle.kinds.specs.declared.machine.Ran.the-variants as ran
-use Rattle.places.specs.Order.{ScoredFor, PlaceFor}
+use Rattle.places.specs.Order.{PlaceFor}
 use Rattle.places.specs.Kept.{Kept, Ended}
 use Rattle.places.specs.OrderLaws.{SmallOut, Ran, ran-sound, fed-for, end-for, end-passed, reach-more, scored-more}
-use Rattle.places.specs.Place.{place, placeAs, partOf, fedFrom, feedOf}
-use Rattle.places.specs.Steps.{settledOf, endFrom, endOf, FitSum, SmallScore, Closes, FitEnd, FitPart}
+use Rattle.places.specs.Place.{place, placeAs, fedFrom, feedOf}
+use Rattle.places.specs.Steps.{settledOf, endFrom, endOf, FitSum, Closes, FitEnd, FitPart}
 use Rattle.places.specs.declared.place.Place.{Place}
 use Rattle.places.specs.declared.place.Score.{Score}
 use Rattle.places.specs.declared.place.Score.the-variants.{None, Live}

@@ -16,7 +16,6 @@ use Rattle.visual.specs.Visual as visual
 use Rattle.utf8.specs.Utf8 as utf-8
 use Rattle.tables.specs.Own.{ownOf}
 use Rattle.tables.specs.Tables.{Tables, sizedB}
-use Rattle.kinds.specs.declared.machine.Machine.{Machine}
 use Rattle.kinds.specs.declared.machine.Machine.the-variants.{Utf8, Iso2022Jp, EucKr, Big5, Caseless, Logical, Visual, ArabicFrench}
 use Rattle.places.specs.Order.{slateB}
 use Rattle.places.specs.Place.{place, feedOf}

@@ -1,19 +1,17 @@
 -- Laws of the slate, for its code and its callers. Assumes nothing.
 use mathlib.Core.Path.{_≡_, refl, sym, ap, subst, _∙_}
-use mathlib.Core.Bool.{Bool, true, false, cond, _&&_, and-false}
+use mathlib.Core.Bool.{Bool, true, false, cond, and-false}
 use mathlib.Core.List.{List, [], _∷_}
 use Prim.Native.Nat.{ℕ, zero, suc, _+_, _*_, _/_, _%_, _≤_, _<_}
 use native.Mathlib.Nat.{le-of-suc-le-suc, not-suc-le-zero, zero-add, add-zero}
-use native.Mathlib.Numerals.{add-one}
 use native.Mathlib.Omega.{arith}
-use lib.Dec.{eqb, leb}
+use lib.Dec.{eqb}
 use lib.IntN.{pos}
 use lib.ListN.{length, getD, drop}
 use lib.Seq.{drop-cons, drop-length}
 use borrow.Author.Tests.{le-leb, lt-leb}
 use Rattle.laws.specs.Each.{EachFrom, each-weaken, each-get}
 use Rattle.laws.specs.Limit.{limit}
-use Rattle.laws.specs.Tests.{both, either}
 use Rattle.weights.specs.Weights.{perByte}
 use Rattle.big5.specs.Scoring as big5
 use Rattle.euckr.specs.Scoring as euckr
@@ -25,7 +23,7 @@ use Rattle.visual.specs.Visual as visual
 use Rattle.utf8.specs.Utf8 as utf-8
 use Rattle.kinds.specs.Kinds.{kindOf, freshIn}
 use Rattle.kinds.specs.KindLaws.{reach-open}
-use Rattle.kinds.specs.Sound.{reachOf, SoundFor}
+use Rattle.kinds.specs.Sound.{reachOf}
 use Rattle.kinds.specs.SoundLaws.{sound-more, fresh-sound}
 use Rattle.tables.specs.Own.{Own, ownOf, SizedAt}
 use Rattle.tables.specs.OwnLaws.{own-sized}
@@ -39,7 +37,7 @@ use Rattle.places.specs.OrderLaws.{slate-true, true-slate, scored-more}
 use Rattle.places.specs.Place.{place, feedOf}
 use Rattle.places.specs.Steps.{SmallScore, FitPart}
 use Rattle.places.specs.PlaceLaws.{feed-nil}
-use Rattle.places.specs.Slate.{takenOf, startOf, feedFrom, feedAll, fitB, slated, slatedOf}
+use Rattle.places.specs.Slate.{startOf, feedFrom, feedAll, fitB, slated, slatedOf}
 use Rattle.places.specs.declared.place.Place.{Place}
 use Rattle.places.specs.declared.place.Score.{Score}
 use Rattle.places.specs.declared.place.Score.the-variants.{None, Live}

@@ -1,8 +1,7 @@
 -- The test whether a machine is fresh decides, in both directions. Assumes nothing.
-use mathlib.Core.Path.{_≡_, refl, sym, ap, _∙_}
-use mathlib.Core.Bool.{Bool, true, false, not, _&&_}
+use mathlib.Core.Path.{_≡_, refl, ap, _∙_}
+use mathlib.Core.Bool.{Bool, true, false}
 use Prim.Native.Nat.{ℕ}
-use lib.Dec.{eqb}
 use Rattle.big5.specs.declared.Big5.{Big5 as Big5Record}
 use Rattle.big5.specs.declared.LatinCj.{LatinCj}
 use Rattle.big5.specs.declared.LatinCj.the-variants as J

@@ -1,21 +1,18 @@
 -- The loop that finds the leader, and the ways through its code. Assumes nothing.
 use mathlib.Core.Path.{_≡_, refl, sym, ap, _∙_}
-use mathlib.Core.Bool.{Bool, true, false, cond}
+use mathlib.Core.Bool.{true, false}
 use mathlib.Core.List.{List, [], _∷_}
-use Prim.Native.Nat.{ℕ, suc, _+_, _<_, _≤_}
+use Prim.Native.Nat.{ℕ, _+_, _<_, _≤_}
 use native.Mathlib.Nat.{not-suc-le-zero}
 use native.Mathlib.Numerals.{add-one}
 use native.Mathlib.Omega.{arith}
-use lib.IntN.{ℤ}
 use lib.ListN.{length, getD, drop, length-drop}
 use lib.Seq.{drop-cons}
 use Rattle.places.specs.declared.place.Place.{Place}
-use Rattle.places.specs.declared.place.Score.{Score}
 use Rattle.state.specs.State.{triggered}
 use Rattle.state.specs.Leader.{betterOf, bestFrom, leaderAs, leaderOf}
 use Rattle.state.specs.declared.leader.Best.{Best}
 use Rattle.state.specs.declared.leader.Best.the-variants as best
-use Rattle.state.specs.declared.leader.Leader.{Leader}
 use Rattle.state.specs.declared.leader.Leader.the-variants.{Ascii}
 use Rattle.state.specs.declared.State.{State}
 

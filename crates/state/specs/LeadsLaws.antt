@@ -20,7 +20,6 @@ use Rattle.state.specs.Leader.{againstBest, betterOf, bestFrom, leaderAs
 use Rattle.state.specs.Leads.{AtMost, Below, EachBelow, Leads, Scoreless, LeaderFor}
 use Rattle.state.specs.declared.leader.Best.{Best}
 use Rattle.state.specs.declared.leader.Best.the-variants as best
-use Rattle.state.specs.declared.leader.Leader.{Leader}
 use Rattle.state.specs.declared.leader.Leader.the-variants.{Ascii}
 use Rattle.state.specs.declared.State.{State}
 

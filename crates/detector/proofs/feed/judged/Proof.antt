@@ -1,7 +1,7 @@
 -- `judged` meets its contract. Assumes nothing.
 use native.Mathlib.Omega.{arith}
 use mathlib.Core.Path.{_≡_, sym, _∙_}
-use mathlib.Core.Bool.{Bool, true, false}
+use mathlib.Core.Bool.{true}
 use Rattle.laws.specs.Tests.{off, on}
 use Rattle.detector.specs.FeedLaws.{judged-order, judged-closed, judged-length, judged-long, judged-accept}
 use Rattle.state.specs.Order.{stateB}

@@ -1,5 +1,5 @@
 -- `trigger_in` meets its contract. Assumes nothing.
-use mathlib.Core.Path.{_≡_, sym, ap, _∙_}
+use mathlib.Core.Path.{sym, ap, _∙_}
 use Rattle.detector.specs.Front.{foundAs}
 use Rattle.detector.specs.FrontLaws.{trigger-earlier, trigger-found}
 use borrow.Author.Needs.{needs}

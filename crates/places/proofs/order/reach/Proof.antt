@@ -1,5 +1,5 @@
 -- `reach` meets its contract. Assumes nothing.
-use mathlib.Core.Path.{_≡_, sym, _∙_}
+use mathlib.Core.Path.{sym, _∙_}
 use Rattle.laws.specs.Tests.{off, on}
 use Rattle.kinds.specs.Sound.{reachOf}
 use borrow.Author.Needs.{needs}

@@ -1,11 +1,7 @@
 -- `feed` meets its contract. Assumes nothing.
-use mathlib.Core.Path.{_≡_, sym, _∙_}
-use mathlib.Core.Bool.{true, false}
-use native.Mathlib.Omega.{arith}
-use Rattle.laws.specs.Limit.{limit}
+use mathlib.Core.Path.{sym, _∙_}
 use Rattle.laws.specs.Tests.{off, on}
-use Rattle.tables.specs.Tables.{Tables, tables, sizedB}
-use Rattle.places.specs.Order.{slateB}
+use Rattle.tables.specs.Tables.{Tables, tables}
 use Rattle.places.specs.SlateLaws.{slated-long, slated-order, slated-length, slated-fed, fit-parts}
 use borrow.Author.Needs.{needs}
 use Rattle.places.proofs.slate.feed.Statement.{statement}

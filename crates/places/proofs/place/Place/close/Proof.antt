@@ -1,7 +1,7 @@
 -- `Place::close` meets its contract. Assumes nothing.
 use Prim.Native.Nat.{_*_, _≤_}
 use native.Mathlib.Omega.{arith}
-use lib.IntN.{ℤ, natAbs}
+use lib.IntN.{natAbs}
 use mir.Syntax.{w64}
 use Rattle.laws.specs.Limit.{limit}
 use Rattle.laws.specs.Sizes.{thru}
