@@ -126,6 +126,9 @@ impl Scale {
 }
 
 impl Big5 {
+    // How many entries its index has.
+    pub const INDEX: usize = lengths::BIG5;
+
     pub fn fresh() -> Big5
         ensures { λ r. ⌜ r ≡ freshOf ⌝ }
     {
@@ -459,5 +462,5 @@ fn is_ready(m: Big5, part: &[u8], index: &[u32], weights: &[i32]) -> bool
 {
     m.is_sound_for(lengths::LIMIT)
         && (part.len() <= lengths::MOST
-            && (index.len() == lengths::BIG5 && weights.len() == lengths::WEIGHTS))
+            && (index.len() == Big5::INDEX && weights.len() == lengths::WEIGHTS))
 }

@@ -180,6 +180,12 @@ impl Scale {
 }
 
 impl EucKr {
+    // How many entries its index has.
+    pub const INDEX: usize = lengths::EUC_KR;
+
+    // How many extras there are, one for each Hangul.
+    pub const EXTRAS: usize = lengths::EXTRAS;
+
     pub fn fresh() -> EucKr
         ensures { λ r. ⌜ r ≡ freshOf ⌝ }
     {
@@ -590,8 +596,8 @@ impl EucKr {
 fn is_lent(index: &[u32], extras: &[i16], weights: &[i32]) -> bool
     ensures { λ r. ⌜ r ≡ lentB (now (index .entry)) (now (extras .entry)) (now (weights .entry)) ⌝ }
 {
-    index.len() == lengths::EUC_KR
-        && (extras.len() == lengths::EXTRAS && weights.len() == lengths::WEIGHTS)
+    index.len() == EucKr::INDEX
+        && (extras.len() == EucKr::EXTRAS && weights.len() == lengths::WEIGHTS)
 }
 
 // Whether all is in order for a run.
