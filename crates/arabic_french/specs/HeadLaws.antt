@@ -1,4 +1,4 @@
--- What the Arabic-French machine forgets: it remembers two bytes, for the case of the letters before. Assumes nothing.
+-- What the Arabic-French machine forgets: it remembers two bytes, for the case of the letters before.
 use mathlib.Core.Path.{_≡_, refl, sym, ap, _∙_}
 use mathlib.Core.Bool.{Bool, true, false, cond}
 use Prim.Native.Nat.{ℕ, _%_}

@@ -83,7 +83,7 @@ impl LatinCaseState {
 }
 
 impl ArabicFrench {
-    // ArabicFrench classes are below it.
+    // Caseless classes are below it.
     pub const CLASSES: u8 = 128;
 
     pub fn fresh() -> ArabicFrench

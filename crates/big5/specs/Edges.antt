@@ -1,4 +1,4 @@
--- The edge lines on Big5, from fresh, for all lent data that meets the line's premise. Assumes nothing.
+-- The edge lines on Big5, from fresh, for all lent data that meets the line's premise.
 use mathlib.Core.Path.{_≡_, refl, sym, ap, _∙_}
 use mathlib.Core.Bool.{true, false}
 use mathlib.Core.List.{[], _∷_}

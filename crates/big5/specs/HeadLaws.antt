@@ -1,4 +1,4 @@
--- What Big5 forgets. Assumes nothing.
+-- What Big5 forgets.
 use mathlib.Core.Path.{_≡_, refl, sym, ap, _∙_}
 use mathlib.Core.Bool.{Bool, true, false, cond}
 use Prim.Native.Nat.{ℕ, _<_}

@@ -1,5 +1,5 @@
 -- When a score is held: only after a lead that holds, where the kind before is not Cj; and it is one of the two scores of a
--- Hanzi. A lead leaves it as it was; every other byte releases or discards it. Assumes nothing.
+-- Hanzi. A lead leaves it as it was; every other byte releases or discards it.
 use mathlib.Core.Path.{_≡_, refl}
 use mathlib.Core.Bool.{Bool, true, false, cond, not, _&&_}
 use mathlib.Core.Logic.{_⊎_, inl, inr}

@@ -1,4 +1,4 @@
--- How Big5 is scored: what each event does to the kind before, the held score and the score. Assumes nothing.
+-- How Big5 is scored: what each event does to the kind before, the held score and the score.
 use mathlib.Core.Bool.{Bool, true, false, cond, not, _&&_, _||_}
 use mathlib.Core.List.{List, [], _∷_}
 use Prim.Native.Nat.{ℕ}

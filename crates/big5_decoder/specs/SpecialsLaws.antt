@@ -1,4 +1,4 @@
--- The four pointers of Big5 that stand for two code points, and that no other does. Assumes nothing.
+-- The four pointers of Big5 that stand for two code points, and that no other does.
 use mathlib.Core.Path.{_≡_, refl}
 use mathlib.Core.Bool.{false, _||_}
 use mathlib.Core.List.{List, [], _∷_}

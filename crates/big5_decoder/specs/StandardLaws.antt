@@ -1,4 +1,4 @@
--- A pointer is the pair's place in the index, and which byte sequences Big5 takes for what, both ways. Assumes nothing.
+-- A pointer is the pair's place in the index, and which byte sequences Big5 takes for what, both ways.
 use mathlib.Core.Path.{_≡_, refl}
 use mathlib.Core.Bool.{Bool, true, false, _||_}
 use mathlib.Core.List.{List}

@@ -1,4 +1,4 @@
--- The caseless machine: what one byte does, a part of a chunk, and the close. Assumes nothing.
+-- The caseless machine: what one byte does, a part of a chunk, and the close.
 use mathlib.Core.Bool.{Bool, true}
 use mathlib.Core.List.{List}
 use Prim.Native.Nat.{ℕ}

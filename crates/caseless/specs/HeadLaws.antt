@@ -1,4 +1,4 @@
--- What the caseless machine forgets. Assumes nothing.
+-- What the caseless machine forgets.
 use mathlib.Core.Path.{refl}
 use mathlib.Core.Bool.{true}
 use Prim.Native.Nat.{ℕ}

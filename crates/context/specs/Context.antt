@@ -1,4 +1,4 @@
--- The saved context: the last two bytes of what was pushed, or fewer. Assumes nothing.
+-- The saved context: the last two bytes of what was pushed, or fewer.
 use mathlib.Core.List.{List, [], _∷_, _++_}
 use Prim.Native.Nat.{ℕ}
 use lib.ListN.{take}

@@ -1,4 +1,4 @@
--- What holds of the saved context after any chunks. Assumes nothing.
+-- What holds of the saved context after any chunks.
 use mathlib.Core.Path.{_≡_, refl, sym, ap, _∙_}
 use mathlib.Core.List.{List, [], _∷_, _++_, append-nil, append-assoc, flatten}
 use Prim.Native.Nat.{ℕ, suc, _-_, _≤_}

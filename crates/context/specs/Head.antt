@@ -1,4 +1,4 @@
--- The head: what precedes the trigger, which is the first byte that is the escape or non-ASCII. Assumes nothing.
+-- The head: what precedes the trigger, which is the first byte that is the escape or non-ASCII.
 use mathlib.Core.Bool.{Bool, cond, _||_}
 use mathlib.Core.List.{List, [], _∷_}
 use Prim.Native.Nat.{ℕ}

@@ -1,4 +1,4 @@
--- The scan gives the first byte that is the escape or non-ASCII, and nothing before it is. Assumes nothing.
+-- The scan gives the first byte that is the escape or non-ASCII, and nothing before it is.
 use mathlib.Core.Path.{_≡_, refl, sym, ap, _∙_}
 use mathlib.Core.Bool.{Bool, true, false, cond, _||_}
 use mathlib.Core.List.{List, [], _∷_, _++_, append-nil}

@@ -1,5 +1,5 @@
 -- The code's own steps at the front: an offset or a number of bytes for what reaches the places, and sums that do not wrap. No
--- public contract cites them. Assumes nothing.
+-- public contract cites them.
 use mathlib.Core.Path.{_≡_}
 use mathlib.Core.List.{List, [], _∷_}
 use Prim.Native.Nat.{ℕ, _≤_}

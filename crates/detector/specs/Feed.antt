@@ -1,4 +1,4 @@
--- What a feed replies, what it gives and what it leaves. Assumes nothing.
+-- What a feed replies, what it gives and what it leaves.
 use mathlib.Core.Bool.{Bool, false, cond}
 use mathlib.Core.List.{List}
 use Prim.Native.Nat.{ℕ, _+_}

@@ -1,4 +1,4 @@
--- Each way through a feed: the reply table, and what is left. Assumes nothing.
+-- Each way through a feed: the reply table, and what is left.
 use mathlib.Core.Path.{_≡_, refl, sym, ap, subst, _∙_}
 use mathlib.Core.Bool.{Bool, true, false, cond}
 use mathlib.Core.List.{List, [], _∷_, _++_}

@@ -1,4 +1,4 @@
--- The front end: document 01's four rules. Assumes nothing.
+-- The front end: document 01's four rules.
 use mathlib.Core.Bool.{Bool, true, cond}
 use mathlib.Core.List.{List, [], _++_}
 use Prim.Native.Nat.{ℕ, _+_, _-_}

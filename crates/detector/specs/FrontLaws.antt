@@ -1,4 +1,4 @@
--- Laws of the front end: what the code's offsets stand for, and what the saved context and the counts come to. Assumes nothing.
+-- Laws of the front end: what the code's offsets stand for, and what the saved context and the counts come to.
 use mathlib.Core.Path.{_≡_, refl, ap, _∙_}
 use mathlib.Core.Bool.{Bool, true, false, cond}
 use mathlib.Core.List.{List, [], _∷_, _++_}

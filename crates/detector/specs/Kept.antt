@@ -1,4 +1,4 @@
--- What an accepted chunk has passed, and what every feed keeps. Assumes nothing.
+-- What an accepted chunk has passed, and what every feed keeps.
 use mathlib.Core.Path.{_≡_}
 use mathlib.Core.Bool.{false}
 use mathlib.Core.List.{List}

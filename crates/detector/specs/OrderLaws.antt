@@ -1,4 +1,4 @@
--- What an accepted chunk leaves is in order. Assumes nothing.
+-- What an accepted chunk leaves is in order.
 use mathlib.Core.Path.{_≡_, refl, sym}
 use mathlib.Core.Bool.{Bool, true, false, cond, not, _||_}
 use mathlib.Core.List.{List, []}

@@ -1,4 +1,4 @@
--- The front end over a whole stream, cut into chunks: the front after them, and the bytes that reached the places. Assumes nothing.
+-- The front end over a whole stream, cut into chunks: the front after them, and the bytes that reached the places.
 use mathlib.Core.Path.{_≡_}
 use mathlib.Core.Bool.{false, true}
 use mathlib.Core.List.{List, [], _∷_, _++_}

@@ -1,4 +1,4 @@
--- Which bytes reach the places over a whole stream, however it is cut; and the non-ASCII count is that of the stream. Assumes nothing.
+-- Which bytes reach the places over a whole stream, however it is cut; and the non-ASCII count is that of the stream.
 use mathlib.Core.Path.{_≡_, refl, sym, ap, _∙_}
 use mathlib.Core.Bool.{Bool, true, false, _||_}
 use mathlib.Core.List.{List, [], _∷_, _++_, append-nil, append-assoc, flatten}

@@ -1,4 +1,4 @@
--- Two remainders of the bytes so far, and how many they were. Assumes nothing.
+-- Two remainders of the bytes so far, and how many they were.
 use mathlib.Core.List.{List, [], _∷_}
 use Prim.Native.Nat.{ℕ, _+_, _*_, _%_, _^_}
 use Rattle.digest.specs.declared.Digest.{Digest}

@@ -1,4 +1,4 @@
--- The bytes one after the other, in a loop: one turn at i, and the end. Assumes nothing.
+-- The bytes one after the other, in a loop: one turn at i, and the end.
 use mathlib.Core.Path.{_≡_}
 use mathlib.Core.List.{List}
 use Prim.Native.Nat.{ℕ, _+_, _≤_, _<_}

@@ -1,4 +1,4 @@
--- The edge table: document 01's proved lines, in its order and words, over what a feed gives and leaves. Assumes nothing.
+-- The edge table: document 01's proved lines, in its order and words, over what a feed gives and leaves.
 use mathlib.Core.Path.{_≡_}
 use mathlib.Core.Bool.{Bool, true, false}
 use mathlib.Core.List.{List, [], _∷_}

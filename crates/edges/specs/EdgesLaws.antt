@@ -1,5 +1,5 @@
 -- The edge table holds: a first chunk that begins with a trigger reaches every place whole, and the machines' own lines say what
--- it does there. Assumes nothing.
+-- it does there.
 use mathlib.Core.Path.{_≡_, refl, sym, ap, subst, _∙_}
 use mathlib.Core.Bool.{Bool, true, false}
 use mathlib.Core.List.{List, [], _∷_}

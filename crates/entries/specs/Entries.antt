@@ -1,4 +1,4 @@
--- Which entries of a lent index are code points; any other is unmapped. Assumes nothing.
+-- Which entries of a lent index are code points; any other is unmapped.
 use mathlib.Core.Bool.{Bool, _&&_, _||_}
 use Prim.Native.Nat.{ℕ}
 use Rattle.octets.specs.Octets.{between}

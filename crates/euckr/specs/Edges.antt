@@ -1,4 +1,4 @@
--- The edge lines on EUC-KR, for all lent data that meets the line's premise. Assumes nothing.
+-- The edge lines on EUC-KR, for all lent data that meets the line's premise.
 use mathlib.Core.Path.{_≡_, refl, sym, ap, _∙_}
 use mathlib.Core.Bool.{Bool, true, false, cond, _&&_}
 use mathlib.Core.List.{List, [], _∷_}
@@ -234,7 +234,7 @@ pub after-81-ff : (t : Lent) (euc : Bool) (prev : LatinKorean) (word : ℕ) (hel
 unfolding stepOf decodeOf first lead-after eventOf errorOf strayOf extensionOf
 after-81-ff t euc prev word held = refl
 
--- ---- the house plan's lines
+-- ---- states that no stream leads to, and what the rules' widths take in
 hangul-outside : (w : Scale) (m : EucKr) (extras : List ℤ) (u b : ℕ) → m .«prev_was_euc_range» ≡ false → hangulOf w m extras u b ≡ outerOf w m
 unfolding hangulOf
 hangul-outside w m extras u b f = rw f

@@ -1,4 +1,4 @@
--- What EUC-KR forgets. Assumes nothing.
+-- What EUC-KR forgets.
 use mathlib.Core.Path.{_≡_, refl, sym, ap, _∙_}
 use mathlib.Core.Bool.{Bool, true, false, cond}
 use mathlib.Core.List.{List}

@@ -1,5 +1,5 @@
 -- When a score is held: only after a lead that holds, where the kind before is not Hangul; and it is the score of a Hangul
--- outside the EUC range. A lead leaves it as it was; every other byte releases or discards it. Assumes nothing.
+-- outside the EUC range. A lead leaves it as it was; every other byte releases or discards it.
 use mathlib.Core.Path.{_≡_, refl}
 use mathlib.Core.Bool.{Bool, true, false, cond, not, _&&_}
 use mathlib.Core.List.{List}

@@ -1,4 +1,4 @@
--- How EUC-KR is scored: what each event does to the kind before, the word, the held score and the score. Assumes nothing.
+-- How EUC-KR is scored: what each event does to the kind before, the word, the held score and the score.
 use mathlib.Core.Bool.{Bool, true, false, cond, not, _&&_, _||_}
 use mathlib.Core.List.{List}
 use Prim.Native.Nat.{ℕ, _+_, _-_}

@@ -1,4 +1,4 @@
--- What the code's branches need of the definitions: sizes, and sums as the code makes them. Assumes nothing.
+-- What the code's branches need of the definitions: sizes, and sums as the code makes them.
 use mathlib.Core.Path.{_≡_, refl, sym, ap, _∙_}
 use mathlib.Core.Bool.{Bool, true, false, _&&_}
 use mathlib.Core.List.{List}

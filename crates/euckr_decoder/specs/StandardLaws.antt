@@ -1,4 +1,4 @@
--- A pointer is the pair's place in the index, and which byte sequences EUC-KR takes for what, both ways. Assumes nothing.
+-- A pointer is the pair's place in the index, and which byte sequences EUC-KR takes for what, both ways.
 use mathlib.Core.Path.{_≡_, refl, sym}
 use mathlib.Core.Bool.{true}
 use mathlib.Core.List.{List}

@@ -1,5 +1,4 @@
 -- What an arm over several decoder states answers: at each of its states by computing, and no other state comes there.
--- Assumes nothing.
 use mathlib.Core.Path.{_≡_, refl}
 use mathlib.Core.List.{List, [], _∷_}
 use Prim.Native.Nat.{ℕ}

@@ -1,4 +1,4 @@
--- How the machine's record stands for the Standard's variables, and its outcomes for the Standard's results. Assumes nothing.
+-- How the machine's record stands for the Standard's variables, and its outcomes for the Standard's results.
 use Prim.Native.Nat.{ℕ}
 use Rattle.laws.specs.Run.{Outcome}
 use Rattle.iso2022jp.specs.declared.DecoderState.{DecoderState as MachineState}

@@ -1,5 +1,5 @@
 -- The machine agrees with the Standard's decoder at every byte and at the end, whatever the decoder's variables are; and the
--- record of variables that the decoder can have is one that the kind can hold. Assumes nothing.
+-- record of variables that the decoder can have is one that the kind can hold.
 use mathlib.Core.Path.{_≡_, refl, sym, ap, _∙_}
 use mathlib.Core.Bool.{Bool, true, false, cond}
 use mathlib.Core.List.{List, [], _∷_}

@@ -1,4 +1,4 @@
--- What ISO-2022-JP forgets: text, which is ASCII but for shift out, shift in and the escape, leaves the record fresh. Assumes nothing.
+-- What ISO-2022-JP forgets: text, which is ASCII but for shift out, shift in and the escape, leaves the record fresh.
 use mathlib.Core.Path.{refl}
 use mathlib.Core.List.{List}
 use Prim.Native.Nat.{ℕ}

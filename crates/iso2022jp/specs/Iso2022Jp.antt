@@ -1,4 +1,4 @@
--- The ISO-2022-JP machine: the Standard's states, the pending lead and the output flag. A byte changes no score. Assumes nothing.
+-- The ISO-2022-JP machine: the Standard's states, the pending lead and the output flag. A byte changes no score.
 use mathlib.Core.Path.{_≡_}
 use mathlib.Core.Bool.{Bool, true, false, cond, not, _&&_, _||_}
 use mathlib.Core.List.{List, [], _∷_}

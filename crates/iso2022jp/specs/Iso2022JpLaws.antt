@@ -1,4 +1,4 @@
--- What holds of the ISO-2022-JP machine's definitions, and each way through the code. Assumes nothing.
+-- What holds of the ISO-2022-JP machine's definitions, and each way through the code.
 use mathlib.Core.Path.{_≡_, refl, sym, ap, subst, _∙_}
 use mathlib.Core.Bool.{Bool, true, false, not, _||_}
 use mathlib.Core.List.{List, [], _∷_}

@@ -1,5 +1,5 @@
 -- The Encoding Standard's ISO-2022-JP decoder, in its variables and its order, as far as a validator goes: what the code point
--- is does not matter, only whether there is one. Assumes nothing.
+-- is does not matter, only whether there is one.
 use mathlib.Core.Bool.{Bool, true, false, cond, not, _&&_, _||_}
 use mathlib.Core.List.{List, [], _∷_}
 use Prim.Native.Nat.{ℕ, _+_, _-_, _*_}

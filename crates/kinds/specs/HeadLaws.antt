@@ -1,5 +1,5 @@
 -- What an all-ASCII head does to a place's machine: from fresh, a stretch of plain bytes leaves what its last two leave, and the
--- score as it was. Assumes nothing.
+-- score as it was.
 use mathlib.Core.Path.{_≡_, refl, sym, _∙_}
 use mathlib.Core.Bool.{true, false, not}
 use mathlib.Core.List.{List, []}

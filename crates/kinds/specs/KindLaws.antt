@@ -1,4 +1,4 @@
--- A machine stays of its kind. Assumes nothing.
+-- A machine stays of its kind.
 use mathlib.Core.Path.{_≡_, refl, sym, ap, _∙_}
 use mathlib.Core.Bool.{Bool, false}
 use mathlib.Core.List.{List}

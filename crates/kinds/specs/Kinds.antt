@@ -1,5 +1,5 @@
 -- The eight machines as one: a byte, a stretch and the end of the stream do to each what its own definition says, over its own
--- tables. Assumes nothing.
+-- tables.
 use mathlib.Core.List.{List}
 use Prim.Native.Nat.{ℕ, _≤_}
 use lib.IntN.{ℤ, pos, natAbs}

@@ -1,5 +1,5 @@
 -- A run of one of the eight machines is its own run, and what the code's answers are where the lent lengths, the record and the
--- stretch are fit. Assumes nothing.
+-- stretch are fit.
 use mathlib.Core.Path.{_≡_, refl, sym, ap, _∙_}
 use mathlib.Core.List.{List}
 use Prim.Native.Nat.{ℕ, _*_, _≤_}

@@ -1,4 +1,4 @@
--- What demand 3 asks of a head's bytes, and of a place's tables. Assumes nothing.
+-- What demand 3 asks of a head's bytes, and of a place's tables.
 use mathlib.Core.Path.{_≡_}
 use mathlib.Core.Bool.{Bool, true, false, not, _&&_, _||_}
 use Prim.Native.Nat.{ℕ}

@@ -1,5 +1,5 @@
 -- What a machine can hold after n bytes. The closing space can lengthen a word and, in visual order, count punctuation: these
--- are bounded by `reach`, which has the space besides, and all else by n. Assumes nothing.
+-- are bounded by `reach`, which has the space besides, and all else by n.
 use mathlib.Core.Bool.{Bool, true, false, cond, _&&_}
 use Prim.Native.Nat.{ℕ, _+_, _≤_}
 use lib.Dec.{leb}

@@ -1,4 +1,4 @@
--- The test of what a machine can hold decides; fresh machines pass it; runs and closes keep it. Assumes nothing.
+-- The test of what a machine can hold decides; fresh machines pass it; runs and closes keep it.
 use mathlib.Core.Path.{_≡_, refl}
 use mathlib.Core.Bool.{Bool, true, false, and-false}
 use mathlib.Core.List.{List}

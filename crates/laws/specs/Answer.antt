@@ -1,5 +1,5 @@
 -- What a machine answers to a public call: the outcome of what it was asked to run, or that it was not fit to be run. The code of
--- each machine has an enum of its own for this, here R, with three cases. Assumes nothing.
+-- each machine has an enum of its own for this, here R, with three cases.
 use mathlib.Core.Path.{_≡_}
 use mathlib.Core.Bool.{Bool, true, false, cond}
 use Prim.Native.Nat.{ℕ, _≤_}

@@ -1,5 +1,5 @@
 -- What an arm of a `match` on a number answers, by one test that the checker computes: f is v at each of the arm's keys,
--- or at each number of the arm's range but the keys of the other arms. Assumes nothing.
+-- or at each number of the arm's range but the keys of the other arms.
 use mathlib.Core.Path.{_≡_, refl, sym, ap, _∙_}
 use mathlib.Core.Bool.{Bool, true, false, _&&_, _||_, Bool·beq}
 use mathlib.Core.List.{List, [], _∷_}

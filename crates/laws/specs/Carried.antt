@@ -1,5 +1,4 @@
 -- A machine held in a larger one: its outcomes, its runs and what it forgets are carried over. And what a run keeps of a record.
--- Assumes nothing.
 use mathlib.Core.Path.{_≡_, refl, sym, ap, _∙_}
 use mathlib.Core.Bool.{Bool}
 use mathlib.Core.List.{List, [], _∷_}

@@ -1,4 +1,4 @@
--- Lists whose elements are gone through one by one, by a loop: each is changed, or each is tested. Assumes nothing.
+-- Lists whose elements are gone through one by one, by a loop: each is changed, or each is tested.
 use mathlib.Core.Path.{_≡_, refl, sym, ap, _∙_}
 use mathlib.Core.Bool.{Bool, true, false, _&&_}
 use mathlib.Core.List.{List, [], _∷_, map}

@@ -1,5 +1,4 @@
 -- The loop of a run, said once for every machine: what holds at its head after i bytes, and what a turn and the end make of it.
--- Assumes nothing.
 use mathlib.Core.Path.{_≡_, refl, sym, ap, _∙_}
 use mathlib.Core.List.{List}
 use Prim.Native.Nat.{ℕ, _+_, _*_, _^_, _<_, _≤_}

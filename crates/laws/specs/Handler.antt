@@ -1,5 +1,5 @@
 -- What the handler of an Encoding Standard's decoder reads from its queue and what it returns. Vars are the decoder's
--- variables, P is what is told of the code points that it returns. Assumes nothing.
+-- variables, P is what is told of the code points that it returns.
 use mathlib.Core.List.{List}
 use Prim.Native.Nat.{ℕ}
 

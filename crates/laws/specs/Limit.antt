@@ -1,4 +1,4 @@
--- How many bytes a stream, or a stretch of one, has at most, and what a count has. Assumes nothing.
+-- How many bytes a stream, or a stretch of one, has at most, and what a count has.
 use Prim.Native.Nat.{ℕ}
 
 abbrev pub limit : ℕ

@@ -1,5 +1,4 @@
 -- Lists, and parts of them: whether some element passes a test, how many do, the last few, what stands from a place on.
--- Assumes nothing.
 use mathlib.Core.Path.{_≡_, refl, sym, ap, _∙_}
 use mathlib.Core.Bool.{Bool, true, false, cond, _||_}
 use mathlib.Core.List.{List, [], _∷_, _++_}

@@ -1,5 +1,5 @@
 -- What a machine forgets. Where it neither drops out nor scores at a byte that passes a test, and two such bytes leave nothing of
--- what it knew before them, a stretch of them leaves what its last two leave. Assumes nothing.
+-- what it knew before them, a stretch of them leaves what its last two leave.
 use mathlib.Core.Path.{_≡_, refl, sym, ap, _∙_}
 use mathlib.Core.Bool.{Bool, true, false, not, _&&_}
 use mathlib.Core.List.{List, [], _∷_}

@@ -1,5 +1,5 @@
 -- A machine's outcome, and its run over a stretch of bytes. A step gives the record after one byte and by how much the
--- score changes, or that the machine drops out. Assumes nothing.
+-- score changes, or that the machine drops out.
 use mathlib.Core.Path.{_≡_, refl, sym, ap, _∙_}
 use mathlib.Core.List.{List, [], _∷_, _++_}
 use Prim.Native.Nat.{ℕ, suc, _+_, _<_, _≤_}

@@ -1,5 +1,4 @@
 -- Sizes of signed numbers, as omega reads them: natAbs is a ℕ. What a signed local reads back, over its width.
--- Assumes nothing.
 use mathlib.Core.Path.{_≡_, refl}
 use mathlib.Core.Bool.{Bool, true, false, cond}
 use Prim.Native.Nat.{ℕ, suc, _+_, _-_, _^_, _≤_, _<_}

@@ -1,4 +1,4 @@
--- Machines whose step never changes the score: validators. What a run of one keeps, and where it can end. Assumes nothing.
+-- Machines whose step never changes the score: validators. What a run of one keeps, and where it can end.
 use mathlib.Core.Path.{_≡_, refl, sym, ap, _∙_}
 use mathlib.Core.List.{List, _∷_, _++_}
 use Prim.Native.Nat.{ℕ, _+_}

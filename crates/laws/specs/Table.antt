@@ -1,5 +1,4 @@
 -- A rule proved at every entry of a table, or at every number below a bound, by one test that the checker computes.
--- Assumes nothing.
 use mathlib.Core.Path.{_≡_, _∙_, sym, subst}
 use mathlib.Core.Bool.{Bool, true, false, _&&_}
 use mathlib.Core.List.{List, [], _∷_}

@@ -1,4 +1,4 @@
--- What tests say, taken together and apart. Assumes nothing.
+-- What tests say, taken together and apart.
 use mathlib.Core.Path.{_≡_, refl, sym}
 use mathlib.Core.Bool.{Bool, true, false, cond, not, _&&_, _||_}
 

@@ -1,5 +1,5 @@
 -- The Encoding Standard's decoders as far as a validator goes: up to the first error, so that what is restored is not read again.
--- A machine that agrees with a decoder at every item agrees with it over a whole stream. Assumes nothing.
+-- A machine that agrees with a decoder at every item agrees with it over a whole stream.
 use mathlib.Core.Path.{_≡_, ap, _∙_}
 use mathlib.Core.List.{List, [], _∷_}
 use Prim.Native.Nat.{ℕ}

@@ -1,4 +1,4 @@
--- How many entries each lent table has. Assumes nothing.
+-- How many entries each lent table has.
 use Prim.Native.Nat.{ℕ}
 
 abbrev pub classCount : ℕ

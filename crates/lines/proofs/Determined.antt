@@ -1,4 +1,4 @@
--- Each public function's contract asks nothing and determines the reply and what is left in the buffer. Assumes nothing.
+-- Each public function's contract asks nothing and determines the reply and what is left in the buffer.
 use mathlib.Core.Path.{_≡_, ap}
 use mathlib.Core.List.{List}
 use Prim.Native.Nat.{ℕ}

@@ -1,4 +1,4 @@
--- A machine's record as text: the fields of its line after the score. Assumes nothing.
+-- A machine's record as text: the fields of its line after the score.
 use mathlib.Core.Bool.{Bool}
 use mathlib.Core.List.{List, _++_}
 use Prim.Native.Nat.{ℕ}

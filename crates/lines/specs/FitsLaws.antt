@@ -1,5 +1,4 @@
 -- A buffer of 2,048 bytes has room for the ten lines of any state: no number has more than 20 digits, and the words are short.
--- Assumes nothing.
 use mathlib.Core.Path.{_≡_, refl}
 use mathlib.Core.Bool.{Bool, true, false}
 use mathlib.Core.List.{List, [], _∷_, _++_}

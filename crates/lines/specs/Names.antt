@@ -1,4 +1,4 @@
--- The words of the replay format. Assumes nothing.
+-- The words of the replay format.
 use mathlib.Core.List.{List}
 use Prim.Native.Nat.{ℕ}
 use Rattle.scribe.specs.Text.{ascii}

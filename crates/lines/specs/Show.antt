@@ -1,4 +1,4 @@
--- Whole lines as text: a reply's, and the ten of a state. Assumes nothing.
+-- Whole lines as text: a reply's, and the ten of a state.
 use mathlib.Core.List.{List, [], _∷_, _++_}
 use Prim.Native.Nat.{ℕ}
 use Rattle.names.specs.Names.{placeName}

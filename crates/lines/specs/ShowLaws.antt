@@ -1,4 +1,4 @@
--- The saved context by its length, and the places one after the other. Assumes nothing.
+-- The saved context by its length, and the places one after the other.
 use mathlib.Core.Path.{_≡_, refl, sym, ap, _∙_}
 use mathlib.Core.List.{List, [], _∷_, _++_, append-nil}
 use Prim.Native.Nat.{ℕ, zero, suc, _+_, _≤_, _<_}

@@ -1,4 +1,4 @@
--- What the machine of logical order forgets. Assumes nothing.
+-- What the machine of logical order forgets.
 use mathlib.Core.Path.{refl}
 use mathlib.Core.Bool.{true}
 use Prim.Native.Nat.{ℕ}

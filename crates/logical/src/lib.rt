@@ -27,7 +27,7 @@ pub enum Ran {
 }
 
 impl Logical {
-    // Logical classes are below it.
+    // Caseless classes are below it.
     pub const CLASSES: u8 = 128;
 
     pub fn fresh() -> Logical

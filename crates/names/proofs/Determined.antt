@@ -1,4 +1,4 @@
--- Each contract of a public function that gives something back asks nothing and determines it and what is left in the buffer. Assumes nothing.
+-- Each contract of a public function that gives something back asks nothing and determines it and what is left in the buffer.
 use mathlib.Core.Path.{ap}
 use mathlib.Core.List.{List}
 use Prim.Native.Nat.{ℕ}

@@ -1,4 +1,4 @@
--- The places' names by their numbers. Assumes nothing.
+-- The places' names by their numbers.
 use mathlib.Core.List.{List, [], _∷_}
 use Prim.Native.Nat.{ℕ}
 use lib.ListN.{getD}

@@ -1,4 +1,4 @@
--- The last name, whatever the number above. Assumes nothing.
+-- The last name, whatever the number above.
 use mathlib.Core.Path.{_≡_, refl}
 use Prim.Native.Nat.{ℕ, zero, suc}
 use Rattle.names.specs.Names.{placeName}

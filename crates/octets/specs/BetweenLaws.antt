@@ -1,4 +1,4 @@
--- What a range test says of a number, and a number of a range test. Assumes nothing.
+-- What a range test says of a number, and a number of a range test.
 use mathlib.Core.Path.{_≡_}
 use mathlib.Core.Bool.{true, false, and-false}
 use Prim.Native.Nat.{ℕ, _<_, _≤_}

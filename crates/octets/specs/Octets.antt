@@ -1,4 +1,4 @@
--- What the tests of one byte, and of a label, say. Bytes are numbers. Assumes nothing.
+-- What the tests of one byte, and of a label, say. Bytes are numbers.
 use mathlib.Core.Bool.{Bool, _&&_, _||_}
 use mathlib.Core.List.{List, [], _∷_}
 use Prim.Native.Nat.{ℕ}

@@ -1,6 +1,5 @@
 -- What the scoring machines see of a decoder's result: an event, and the lead after it. Here document 01 departs from the
 -- Standard: the ASCII byte that the Standard restores, to be read again, is not decoded again, and is no part of the error.
--- Assumes nothing.
 use mathlib.Core.Bool.{cond}
 use Prim.Native.Nat.{ℕ, _-_}
 use lib.Dec.{eqb}

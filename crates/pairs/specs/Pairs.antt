@@ -1,4 +1,4 @@
--- What Big5 and EUC-KR share: the leads, the held score, the leads that hold. Assumes nothing.
+-- What Big5 and EUC-KR share: the leads, the held score, the leads that hold.
 use mathlib.Core.Bool.{Bool, _||_}
 use Prim.Native.Nat.{ℕ, _≤_}
 use lib.Dec.{leb, eqb}

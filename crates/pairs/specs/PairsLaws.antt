@@ -1,4 +1,4 @@
--- What a lead can be, what lead the handler leaves, and the test of a held score. Assumes nothing.
+-- What a lead can be, what lead the handler leaves, and the test of a held score.
 use mathlib.Core.Path.{_≡_, refl}
 use mathlib.Core.Bool.{Bool, true, false, _||_, or-true}
 use Prim.Native.Nat.{ℕ, _≤_}

@@ -1,4 +1,4 @@
--- A pair's pointer is its place. So it lies below the number of pairs, and no two pairs share one. Assumes nothing.
+-- A pair's pointer is its place. So it lies below the number of pairs, and no two pairs share one.
 use mathlib.Core.Path.{_≡_, refl, sym, ap, _∙_}
 use mathlib.Core.Bool.{Bool, true, false, cond, _&&_, _||_}
 use mathlib.Core.List.{List, [], _∷_, map, List·Memᴰ, List·Memᴰ·head, List·Memᴰ·tail, Memᴰ·cast, Memᴰ·append-left, Memᴰ·append-right}

@@ -1,4 +1,4 @@
--- Ranges, by the tests that the code makes one after the other. Assumes nothing.
+-- Ranges, by the tests that the code makes one after the other.
 use mathlib.Core.Path.{_≡_, refl}
 use mathlib.Core.Bool.{Bool, true, false, _&&_, _||_}
 use Prim.Native.Nat.{ℕ, suc, _<_, _≤_}

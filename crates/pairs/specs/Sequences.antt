@@ -1,5 +1,5 @@
 -- Which byte sequences a pair decoder takes for what, from where no lead is pending: Yields says it by the trail bytes and by
--- what stands at a pair's place, Reads by the decoder's results. Assumes nothing.
+-- what stands at a pair's place, Reads by the decoder's results.
 use mathlib.Core.Path.{_≡_}
 use mathlib.Core.Bool.{Bool, true, false, cond}
 use mathlib.Core.List.{List, [], _∷_}

@@ -1,4 +1,4 @@
--- Both ways: a pair decoder reads a byte sequence and yields an event exactly if Yields says so. Assumes nothing.
+-- Both ways: a pair decoder reads a byte sequence and yields an event exactly if Yields says so.
 use mathlib.Core.Path.{_≡_, refl, sym, ap, _∙_}
 use mathlib.Core.Bool.{Bool, true, false}
 use mathlib.Core.List.{List, [], _∷_}

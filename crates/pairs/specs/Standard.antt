@@ -1,6 +1,6 @@
 -- The Encoding Standard's Big5 and EUC-KR decoders, in its variables and its order: lead, pointer, offset, index. The two
 -- differ in how they lay out their pairs and in what a pointer stands for. Lead, which lasts from byte to byte, is 0 or the
--- byte that began a pair. Assumes nothing.
+-- byte that began a pair.
 use mathlib.Core.Bool.{Bool, cond}
 use mathlib.Core.List.{List, [], _∷_}
 use Prim.Native.Nat.{ℕ, _+_, _-_, _*_}

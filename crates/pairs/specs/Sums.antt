@@ -1,4 +1,4 @@
--- Sums of signed numbers as the code has them: each number was put into 64 bits and read back. Assumes nothing.
+-- Sums of signed numbers as the code has them: each number was put into 64 bits and read back.
 use mathlib.Core.Path.{_≡_, refl, sym}
 use mathlib.Core.Bool.{true, false}
 use Prim.Native.Nat.{ℕ, suc, _+_, _^_, _≤_, _<_}

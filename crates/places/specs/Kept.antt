@@ -1,4 +1,4 @@
--- What feeding keeps: places in order stay in order. Assumes nothing.
+-- What feeding keeps: places in order stay in order.
 use mathlib.Core.Bool.{Bool, true, false}
 use mathlib.Core.List.{List}
 use Prim.Native.Nat.{ℕ, _+_, _≤_}

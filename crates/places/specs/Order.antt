@@ -1,4 +1,4 @@
--- Which places a state in order can hold: after n bytes, the stream closed or not, the places fed already or not. Assumes nothing.
+-- Which places a state in order can hold: after n bytes, the stream closed or not, the places fed already or not.
 use mathlib.Core.Path.{_≡_}
 use mathlib.Core.Bool.{Bool, true, false, _&&_, _||_}
 use mathlib.Core.List.{List}

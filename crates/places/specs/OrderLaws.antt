@@ -1,4 +1,4 @@
--- The test of the places decides, and places stay in order. Assumes nothing.
+-- The test of the places decides, and places stay in order.
 use mathlib.Core.Path.{_≡_, refl, sym, ap, _∙_}
 use mathlib.Core.Bool.{Bool, true, false, cond, _&&_, _||_}
 use mathlib.Core.List.{List}

@@ -1,4 +1,4 @@
--- A place: one machine under its kind, beside its score; and what a part of a chunk makes of it. Assumes nothing.
+-- A place: one machine under its kind, beside its score; and what a part of a chunk makes of it.
 use mathlib.Core.Bool.{Bool, cond}
 use mathlib.Core.List.{List}
 use Prim.Native.Nat.{ℕ}

@@ -1,4 +1,4 @@
--- Each way through feeding a place, and that it stays in order. Assumes nothing.
+-- Each way through feeding a place, and that it stays in order.
 use mathlib.Core.Path.{_≡_, refl, sym, ap, subst, _∙_}
 use mathlib.Core.Bool.{Bool, true, false}
 use mathlib.Core.List.{List, []}

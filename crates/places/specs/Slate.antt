@@ -1,4 +1,4 @@
--- All eight places: what a start gives, and what a part of a chunk makes of them. Assumes nothing.
+-- All eight places: what a start gives, and what a part of a chunk makes of them.
 use mathlib.Core.Bool.{Bool, true, false, cond, _&&_}
 use mathlib.Core.List.{List, [], _∷_}
 use Prim.Native.Nat.{ℕ, suc, _/_, _%_}

@@ -1,4 +1,4 @@
--- Laws of the slate, for its code and its callers. Assumes nothing.
+-- Laws of the slate, for its code and its callers.
 use mathlib.Core.Path.{_≡_, refl, sym, ap, subst, _∙_}
 use mathlib.Core.Bool.{Bool, true, false, cond, and-false}
 use mathlib.Core.List.{List, [], _∷_}

@@ -1,4 +1,4 @@
--- The code's own steps at a place, and what they ask: no public contract cites them. Assumes nothing.
+-- The code's own steps at a place, and what they ask: no public contract cites them.
 use mathlib.Core.Path.{_≡_}
 use Prim.Native.Nat.{ℕ, _+_, _*_, _^_, _<_, _≤_}
 use lib.IntN.{ℤ, natAbs, _+ℤ_}

@@ -1,4 +1,4 @@
--- Where the bytes at hand stand in a window of n bytes. Assumes nothing.
+-- Where the bytes at hand stand in a window of n bytes.
 use mathlib.Core.Bool.{Bool, true, false}
 use mathlib.Core.Path.{_≡_}
 use Prim.Native.Nat.{ℕ, _+_, _≤_}

@@ -1,4 +1,4 @@
--- The command with which bytes begin. Assumes nothing.
+-- The command with which bytes begin.
 use mathlib.Core.Bool.{Bool, cond}
 use mathlib.Core.List.{List}
 use Prim.Native.Nat.{ℕ, _+_, _-_, _*_}

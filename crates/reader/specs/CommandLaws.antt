@@ -1,4 +1,4 @@
--- A command that was read stands whole in the bytes. Assumes nothing.
+-- A command that was read stands whole in the bytes.
 use mathlib.Core.Path.{_≡_, sym, subst}
 use mathlib.Core.List.{List}
 use Prim.Native.Nat.{ℕ, _+_, _-_, _≤_}

@@ -1,4 +1,4 @@
--- Tables read from little-endian bytes. Assumes nothing.
+-- Tables read from little-endian bytes.
 use mathlib.Core.Bool.{cond}
 use mathlib.Core.List.{List, [], _∷_}
 use Prim.Native.Nat.{ℕ}

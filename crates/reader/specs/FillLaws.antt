@@ -1,4 +1,4 @@
--- Tables read in a loop, entry by entry. Assumes nothing.
+-- Tables read in a loop, entry by entry.
 use mathlib.Core.Path.{_≡_, refl, ap, _∙_}
 use mathlib.Core.List.{List, [], _∷_, _++_, append-nil}
 use Prim.Native.Nat.{ℕ, suc, _+_, _-_, _≤_, _<_}

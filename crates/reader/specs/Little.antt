@@ -1,4 +1,4 @@
--- The number that bytes make, the least first. Assumes nothing.
+-- The number that bytes make, the least first.
 use mathlib.Core.List.{List, [], _∷_}
 use Prim.Native.Nat.{ℕ, _+_, _*_}
 use lib.ListN.{take, drop}

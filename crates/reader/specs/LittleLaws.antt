@@ -1,4 +1,4 @@
--- Two, four and eight bytes. Assumes nothing.
+-- Two, four and eight bytes.
 use mathlib.Core.Path.{_≡_, refl}
 use mathlib.Core.List.{List, [], _∷_}
 use Prim.Native.Nat.{ℕ, zero, suc, _+_, _*_, _≤_}

@@ -1,4 +1,4 @@
--- One way through the code of a command after the other. Assumes nothing.
+-- One way through the code of a command after the other.
 use mathlib.Core.Path.{_≡_, refl}
 use mathlib.Core.List.{List}
 use Prim.Native.Nat.{ℕ, _+_, _-_, _≤_, _<_}

@@ -1,4 +1,4 @@
--- The test whether a machine is the fresh one of its kind. Assumes nothing.
+-- The test whether a machine is the fresh one of its kind.
 use mathlib.Core.Bool.{Bool, true, false, not, _&&_}
 use Prim.Native.Nat.{ℕ}
 use lib.Dec.{eqb}

@@ -1,4 +1,4 @@
--- The test whether a machine is fresh decides, in both directions. Assumes nothing.
+-- The test whether a machine is fresh decides, in both directions.
 use mathlib.Core.Path.{_≡_, refl, ap, _∙_}
 use mathlib.Core.Bool.{Bool, true, false}
 use Prim.Native.Nat.{ℕ}

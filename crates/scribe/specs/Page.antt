@@ -1,4 +1,4 @@
--- A buffer and how far it is written. Assumes nothing.
+-- A buffer and how far it is written.
 use mathlib.Core.Bool.{cond}
 use mathlib.Core.List.{List, [], _∷_}
 use Prim.Native.Nat.{ℕ, _+_}

@@ -1,4 +1,4 @@
--- Texts join; a text that finds room stands on the page as it is. Assumes nothing.
+-- Texts join; a text that finds room stands on the page as it is.
 use mathlib.Core.Path.{_≡_, refl, ap, _∙_}
 use mathlib.Core.Bool.{cond}
 use mathlib.Core.List.{List, [], _∷_, _++_}

@@ -1,4 +1,4 @@
--- Flags and numbers as text, in ASCII. Assumes nothing.
+-- Flags and numbers as text, in ASCII.
 use mathlib.Core.Bool.{Bool, cond}
 use mathlib.Core.List.{List, [], _∷_, _++_}
 use Prim.Native.Char.{code}

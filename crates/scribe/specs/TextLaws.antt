@@ -1,4 +1,4 @@
--- The fewest digits that hold a number are its text; the sign. Assumes nothing.
+-- The fewest digits that hold a number are its text; the sign.
 use mathlib.Core.Path.{_≡_, refl, subst}
 use mathlib.Core.Bool.{true, false}
 use mathlib.Core.List.{List, [], _∷_, _++_}

@@ -1,4 +1,4 @@
--- Negative numbers as the code takes them apart, -(z + 1), and puts them together, -k - 1. Assumes nothing.
+-- Negative numbers as the code takes them apart, -(z + 1), and puts them together, -k - 1.
 use mathlib.Core.Path.{_≡_, refl, sym, ap, _∙_}
 use mathlib.Core.Bool.{Bool, true, false}
 use Prim.Native.Nat.{ℕ, zero, suc, _+_, _-_, _^_, _<_, _≤_}

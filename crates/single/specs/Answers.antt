@@ -1,4 +1,4 @@
--- What a single-byte machine answers, over its step, the test of its record, and the three cases of its answer. Assumes nothing.
+-- What a single-byte machine answers, over its step, the test of its record, and the three cases of its answer.
 use mathlib.Core.Bool.{Bool}
 use mathlib.Core.List.{List}
 use Prim.Native.Nat.{ℕ}

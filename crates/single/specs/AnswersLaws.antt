@@ -1,4 +1,4 @@
--- What a caller that has tested uses of a single-byte machine's answers, and what the code shows. Assumes nothing.
+-- What a caller that has tested uses of a single-byte machine's answers, and what the code shows.
 use mathlib.Core.Path.{_≡_}
 use mathlib.Core.Bool.{Bool, true, false}
 use mathlib.Core.List.{List, [], _∷_}

@@ -1,4 +1,4 @@
--- A byte's class. Caseless class is class modulo 128; class 1 is the Latin letter, bit 7 its capital. Assumes nothing.
+-- A byte's class. Caseless class is class modulo 128; class 1 is the Latin letter, bit 7 its capital.
 use mathlib.Core.Bool.{Bool, cond, not}
 use mathlib.Core.List.{List}
 use Prim.Native.Nat.{ℕ, _%_}

@@ -1,4 +1,4 @@
--- None exactly at class 255. Assumes nothing.
+-- None exactly at class 255.
 use mathlib.Core.Path.{_≡_, refl}
 use mathlib.Core.Bool.{Bool, true, false, cond}
 use Prim.Native.Nat.{ℕ}

@@ -1,4 +1,4 @@
--- What is tested once at the entry of a public call: the lent lengths, the record, the part's length. Assumes nothing.
+-- What is tested once at the entry of a public call: the lent lengths, the record, the part's length.
 use mathlib.Core.Bool.{Bool, _&&_}
 use Prim.Native.Nat.{ℕ, _<_, _≤_}
 use lib.Dec.{ltb, leb}

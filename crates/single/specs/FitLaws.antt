@@ -1,5 +1,4 @@
 -- The tests at the entry decide what they are meant to, in both directions; and what a byte does to the shared fields.
--- Assumes nothing.
 use mathlib.Core.Path.{_≡_}
 use mathlib.Core.Bool.{Bool, true, false, cond}
 use Prim.Native.Nat.{ℕ, _+_, _≤_}

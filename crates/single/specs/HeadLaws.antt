@@ -1,4 +1,4 @@
--- The bytes that a single-byte machine forgets: what the four share. Assumes nothing.
+-- The bytes that a single-byte machine forgets: what the four share.
 use mathlib.Core.Path.{_≡_}
 use mathlib.Core.Bool.{Bool, true, false, not, _&&_}
 use Prim.Native.Nat.{ℕ}

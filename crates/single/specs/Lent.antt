@@ -1,4 +1,4 @@
--- What a single-byte machine is lent. Assumes nothing.
+-- What a single-byte machine is lent.
 use mathlib.Core.Bool.{Bool, _&&_}
 use mathlib.Core.List.{List}
 use mathlib.Core.Path.{_≡_}

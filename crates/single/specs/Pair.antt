@@ -1,4 +1,4 @@
--- Pair score and adjacency are taken unless this byte and the previous one are both ASCII. Assumes nothing.
+-- Pair score and adjacency are taken unless this byte and the previous one are both ASCII.
 use mathlib.Core.Bool.{Bool, cond, _&&_, _||_}
 use mathlib.Core.List.{List}
 use Prim.Native.Nat.{ℕ, _+_, _*_}

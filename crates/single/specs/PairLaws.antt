@@ -1,4 +1,4 @@
--- Each way through the code's tests of a pair. Assumes nothing.
+-- Each way through the code's tests of a pair.
 use mathlib.Core.Path.{_≡_, refl, sym, _∙_}
 use mathlib.Core.Bool.{Bool, true, false, _&&_, _||_}
 use mathlib.Core.List.{List}

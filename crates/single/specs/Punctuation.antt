@@ -1,4 +1,4 @@
--- ASCII punctuation of caseless class 0, and how many were plausible. Assumes nothing.
+-- ASCII punctuation of caseless class 0, and how many were plausible.
 use mathlib.Core.Bool.{Bool, cond, _&&_}
 use Prim.Native.Nat.{ℕ, _+_}
 use lib.Dec.{eqb}

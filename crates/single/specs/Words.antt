@@ -1,5 +1,4 @@
 -- A run of alphabetic classes lengthens the current word; any other class moves it to longest if longer, and zeroes it.
--- Assumes nothing.
 use mathlib.Core.Bool.{Bool, cond}
 use Prim.Native.Nat.{ℕ, _+_, _%_, _^_}
 use lib.Dec.{ltb}

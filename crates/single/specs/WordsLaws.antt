@@ -1,4 +1,4 @@
--- A count of at most 2^63 does not wrap where it grows by one. Assumes nothing.
+-- A count of at most 2^63 does not wrap where it grows by one.
 use mathlib.Core.Path.{_≡_, _∙_, ap}
 use mathlib.Core.Bool.{Bool, true, false}
 use Prim.Native.Nat.{ℕ, _^_, _≤_, _<_}

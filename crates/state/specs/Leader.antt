@@ -1,4 +1,4 @@
--- The leader. Assumes nothing.
+-- The leader.
 use mathlib.Core.Bool.{cond}
 use mathlib.Core.List.{List, [], _∷_}
 use Prim.Native.Nat.{ℕ, suc}

@@ -1,4 +1,4 @@
--- The loop that finds the leader, and the ways through its code. Assumes nothing.
+-- The loop that finds the leader, and the ways through its code.
 use mathlib.Core.Path.{_≡_, refl, sym, ap, _∙_}
 use mathlib.Core.Bool.{true, false}
 use mathlib.Core.List.{List, [], _∷_}

@@ -1,5 +1,5 @@
 -- What it is to lead, without the walk that finds the leader: the place has a score, no place has a greater one, and each place
--- before it has a lesser one or none. Assumes nothing.
+-- before it has a lesser one or none.
 use mathlib.Core.Path.{_≡_}
 use mathlib.Core.Bool.{true, false}
 use mathlib.Core.List.{List}

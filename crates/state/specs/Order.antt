@@ -1,4 +1,4 @@
--- Which states are in order. Assumes nothing.
+-- Which states are in order.
 use mathlib.Core.Path.{_≡_}
 use mathlib.Core.Bool.{Bool, false, not, _&&_, _||_}
 use Prim.Native.Nat.{ℕ, _≤_}

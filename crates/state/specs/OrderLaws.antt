@@ -1,4 +1,4 @@
--- The in-order test decides, and a start is in order. Assumes nothing.
+-- The in-order test decides, and a start is in order.
 use mathlib.Core.Path.{_≡_, refl, ap}
 use mathlib.Core.Bool.{true, false, not, _||_}
 use mathlib.Core.List.{[], _∷_}

@@ -1,4 +1,4 @@
--- The reply table: number and flag. Assumes nothing.
+-- The reply table: number and flag.
 use mathlib.Core.Bool.{Bool, false}
 use Prim.Native.Nat.{ℕ}
 use Rattle.state.specs.declared.reply.Reply.{Reply}

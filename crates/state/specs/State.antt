@@ -1,4 +1,4 @@
--- The state of a stream: what is known of its bytes, and its start. Assumes nothing.
+-- The state of a stream: what is known of its bytes, and its start.
 use mathlib.Core.Bool.{Bool, false, _||_}
 use mathlib.Core.List.{[]}
 use Prim.Native.Nat.{ℕ}

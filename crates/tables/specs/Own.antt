@@ -1,4 +1,4 @@
--- One place's own tables: which of all tables they are, and how long its machine asks them to be. Assumes nothing.
+-- One place's own tables: which of all tables they are, and how long its machine asks them to be.
 use mathlib.Core.Path.{_≡_}
 use mathlib.Core.List.{List, [], _∷_}
 use Prim.Native.Nat.{ℕ}

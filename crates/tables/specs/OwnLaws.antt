@@ -1,4 +1,4 @@
--- Exact lengths give each place those that its machine asks. Assumes nothing.
+-- Exact lengths give each place those that its machine asks.
 use mathlib.Core.Path.{_≡_, ap}
 use mathlib.Core.List.{List, map}
 use Prim.Native.Nat.{ℕ, _<_}

@@ -1,4 +1,4 @@
--- The seventeen lent tables, in document 01's order. Assumes nothing.
+-- The seventeen lent tables, in document 01's order.
 use mathlib.Core.Path.{_≡_}
 use mathlib.Core.Bool.{Bool, true, false, _&&_}
 use mathlib.Core.List.{List, [], _∷_, _++_, map}

@@ -1,4 +1,4 @@
--- The test of the lent lengths decides. Assumes nothing.
+-- The test of the lent lengths decides.
 use mathlib.Core.Path.{_≡_, refl}
 use mathlib.Core.Bool.{true, _&&_, and-true, and-assoc}
 use mathlib.Core.List.{List, [], _∷_, _++_, map}

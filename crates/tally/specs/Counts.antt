@@ -1,4 +1,4 @@
--- What is counted. Counts are of 64 bits. Assumes nothing.
+-- What is counted. Counts are of 64 bits.
 use mathlib.Core.Bool.{Bool, true, cond, not}
 use Prim.Native.Nat.{ℕ, _+_, _%_, _^_}
 use lib.Dec.{eqb}

@@ -1,4 +1,4 @@
--- The public function's contract asks nothing, and determines what it gives and what the caller's front holds afterwards. Assumes nothing.
+-- The public function's contract asks nothing, and determines what it gives and what the caller's front holds afterwards.
 use mathlib.Core.Path.{_≡_, refl, ap}
 use contract.Lifetimes.{Lfts}
 use denote.Ref.{now}

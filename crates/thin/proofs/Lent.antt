@@ -1,4 +1,4 @@
--- What `feed` is passed: its tables as the definitions have them, and its parameters' machine values. Assumes nothing, and `lawfuls` takes `Given`.
+-- What `feed` is passed: its tables as the definitions have them, and its parameters' machine values. `lawfuls` takes `Given`.
 use mathlib.Core.List.{List, [], _∷_}
 use Prim.Native.Nat.{ℕ, suc}
 use lib.ListN.{length}

@@ -1,4 +1,4 @@
--- The thin form of a feed: the front in the caller's record, the places by value. Assumes nothing.
+-- The thin form of a feed: the front in the caller's record, the places by value.
 use mathlib.Core.Bool.{Bool}
 use mathlib.Core.List.{List}
 use Prim.Native.Nat.{ℕ}

@@ -1,4 +1,4 @@
--- A refused chunk changes nothing. Assumes nothing.
+-- A refused chunk changes nothing.
 use mathlib.Core.Path.{_≡_, sym, ap}
 use mathlib.Core.Bool.{Bool}
 use mathlib.Core.List.{List}

@@ -1,4 +1,4 @@
--- How the machine's record stands for the Standard's variables, and its outcomes for the Standard's results. Assumes nothing.
+-- How the machine's record stands for the Standard's variables, and its outcomes for the Standard's results.
 use Prim.Native.Nat.{_-_}
 use Rattle.laws.specs.Run.{Outcome}
 use Rattle.utf8.specs.declared.Utf8.{Utf8}

@@ -1,5 +1,4 @@
 -- The machine agrees with the Standard's decoder at every byte and at the end, for all variables that the decoder can have.
--- Assumes nothing.
 use mathlib.Core.Path.{_≡_, refl, sym}
 use mathlib.Core.Bool.{Bool, true, false, cond}
 use mathlib.Core.List.{List, [], _∷_}

@@ -1,4 +1,4 @@
--- What UTF-8 forgets: ASCII leaves the record fresh. Assumes nothing.
+-- What UTF-8 forgets: ASCII leaves the record fresh.
 use mathlib.Core.Path.{refl, sym}
 use Prim.Native.Nat.{ℕ}
 use borrow.Author.Tests.{ltb-true}

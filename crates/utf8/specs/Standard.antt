@@ -1,5 +1,5 @@
 -- The Encoding Standard's UTF-8 decoder, in its variables and its order, as far as a validator goes: what the code point is
--- does not matter, only whether there is one. No byte order mark is looked for. Assumes nothing.
+-- does not matter, only whether there is one. No byte order mark is looked for.
 use mathlib.Core.Bool.{cond}
 use mathlib.Core.List.{[], _∷_}
 use Prim.Native.Nat.{ℕ, _+_}

@@ -1,4 +1,4 @@
--- The UTF-8 machine: how many bytes are still needed and the range of the next one. A byte changes no score. Assumes nothing.
+-- The UTF-8 machine: how many bytes are still needed and the range of the next one. A byte changes no score.
 use mathlib.Core.Bool.{Bool, false, cond, _&&_, _||_}
 use mathlib.Core.List.{List}
 use Prim.Native.Nat.{ℕ, _-_, _≤_}

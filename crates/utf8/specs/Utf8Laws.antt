@@ -1,4 +1,4 @@
--- What holds of the UTF-8 machine's definitions, and each way through the code. Assumes nothing.
+-- What holds of the UTF-8 machine's definitions, and each way through the code.
 use mathlib.Core.Path.{_≡_, refl, sym, subst, _∙_}
 use mathlib.Core.Bool.{Bool, true, false, cond, _||_}
 use mathlib.Core.List.{List}

@@ -1,4 +1,4 @@
--- Unicode's table of well-formed UTF-8 byte sequences, and what it makes of a list of bytes. Assumes nothing.
+-- Unicode's table of well-formed UTF-8 byte sequences, and what it makes of a list of bytes.
 use mathlib.Core.Path.{_≡_}
 use mathlib.Core.List.{List, [], _∷_, _++_}
 use mathlib.Core.Logic.{_⊎_}

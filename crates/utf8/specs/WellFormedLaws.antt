@@ -1,5 +1,5 @@
 -- The UTF-8 machine lives through exactly the bytes that the table of well-formed sequences makes, and is whole at the close
--- exactly if nothing of them is cut. Assumes nothing.
+-- exactly if nothing of them is cut.
 use mathlib.Core.Path.{_≡_, refl, sym, ap, subst, _∙_}
 use mathlib.Core.Bool.{Bool, true, false, _&&_, _||_}
 use mathlib.Core.List.{List, [], _∷_, _++_, append-assoc, append-nil}

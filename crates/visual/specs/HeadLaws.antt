@@ -1,4 +1,4 @@
--- What the machine of visual order forgets. Assumes nothing.
+-- What the machine of visual order forgets.
 use mathlib.Core.Path.{refl}
 use mathlib.Core.Bool.{Bool, true, false}
 use Prim.Native.Nat.{ℕ}

@@ -28,7 +28,7 @@ pub enum Ran {
 }
 
 impl Visual {
-    // Visual classes are below it.
+    // Caseless classes are below it.
     pub const CLASSES: u8 = 128;
 
     pub fn fresh() -> Visual

@@ -1,4 +1,4 @@
--- The 17 lent weights, in document 01's order, and what one byte can add. Assumes nothing.
+-- The 17 lent weights, in document 01's order, and what one byte can add.
 use mathlib.Core.List.{List}
 use Prim.Native.Nat.{ℕ, _*_}
 use lib.IntN.{ℤ, pos}

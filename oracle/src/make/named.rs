@@ -1,6 +1,7 @@
-//! Cases with names, for `drive`: the lines of DESIGN 5.2, 5.4, 5.6, 5.7 and
-//! 5.8, and document 01's edge lines on EUC-KR and Big5. They are meant for
-//! the tables `named`.
+//! Cases with names, for `drive`: held scores at the close, states that no
+//! stream reaches, the previous-byte rule, mapped private use, the specials,
+//! the held leads of Korean, and document 01's edge lines on EUC-KR and Big5.
+//! They are meant for the tables `named`.
 
 use crate::order::fresh;
 use crate::record::Record;

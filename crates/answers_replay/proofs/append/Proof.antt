@@ -1,4 +1,4 @@
--- `append` is safe and ends. Assumes nothing.
+-- `append` is safe and ends.
 use mathlib.Core.Path.{_≡_}
 use Prim.Native.Nat.{_≤_}
 use native.Mathlib.Omega.{arith}

@@ -1,4 +1,4 @@
--- `play_each` is safe and ends. Assumes nothing.
+-- `play_each` is safe and ends.
 use Prim.Native.Nat.{_≤_, _-_}
 use borrow.Author.Needs.{needs}
 use Rattle.answers_replay.proofs.play_each.Statement.{statement}

@@ -1,4 +1,4 @@
--- `is_distinct` meets its contract: the arms by computed tests, the rest number by number. Assumes nothing.
+-- `is_distinct` meets its contract: the arms by computed tests, the rest number by number.
 use mathlib.Core.Bool.{true}
 use mathlib.Core.List.{[], _∷_}
 use mathlib.Core.Logic.{inl, inr}

@@ -1,4 +1,4 @@
--- `is_hanzi` meets its contract. Assumes nothing.
+-- `is_hanzi` meets its contract.
 use native.Mathlib.Omega.{arith}
 use Rattle.pairs.specs.Ranges.{inside, below, above, up-to}
 use Rattle.big5.proofs.is_hanzi.Statement.{statement}

@@ -1,4 +1,4 @@
--- `is_pair` meets its contract. Assumes nothing.
+-- `is_pair` meets its contract.
 use mathlib.Core.Path.{_≡_, sym, _∙_}
 use mathlib.Core.Bool.{true, false}
 use Rattle.pairs.specs.Pairs.{isLead}

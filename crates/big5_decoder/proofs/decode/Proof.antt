@@ -1,4 +1,4 @@
--- `decode` meets its contract. Assumes nothing.
+-- `decode` meets its contract.
 use borrow.Author.Tests.{eq-eqb, ne-eqb}
 use Rattle.pairs.specs.PairsLaws.{returned-lead}
 use Rattle.big5_decoder.specs.Standard.{pairOf, decodeOf}

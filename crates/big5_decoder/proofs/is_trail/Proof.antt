@@ -1,4 +1,4 @@
--- `is_trail` meets its contract. Assumes nothing.
+-- `is_trail` meets its contract.
 use native.Mathlib.Omega.{arith}
 use Rattle.pairs.specs.Ranges.{inside, below, above, up-to}
 use Rattle.big5_decoder.proofs.is_trail.Statement.{statement}

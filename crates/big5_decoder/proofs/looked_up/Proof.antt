@@ -1,4 +1,4 @@
--- `looked_up` meets its contract. Assumes nothing.
+-- `looked_up` meets its contract.
 use mathlib.Core.Path.{_≡_, sym, _∙_}
 use mathlib.Core.Bool.{true, false}
 use Rattle.pairs.specs.Standard.{indexed, returned}

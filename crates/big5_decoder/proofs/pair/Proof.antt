@@ -1,4 +1,4 @@
--- `pair` meets its contract. Assumes nothing.
+-- `pair` meets its contract.
 use mathlib.Core.Path.{sym, _∙_}
 use Rattle.big5_decoder.specs.SpecialsLaws.{at-1133, at-1135, at-1164, at-1166, not-special}
 use Rattle.big5_decoder.specs.Ways.{no-pair, pair-two, pair-entry}

@@ -1,4 +1,4 @@
--- `pointer` meets its contract. Assumes nothing.
+-- `pointer` meets its contract.
 use mathlib.Core.Logic.{⊎-elim}
 use native.Mathlib.Omega.{arith}
 use borrow.Author.Tests.{lt-ltb, le-ltb}

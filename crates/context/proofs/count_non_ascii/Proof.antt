@@ -1,5 +1,5 @@
 -- `count_non_ascii` meets its contract. The invariant: what was counted and what is still to count make the whole.
--- The measure is what is left of the length. Assumes nothing.
+-- The measure is what is left of the length.
 use mathlib.Core.Path.{_≡_, refl, sym, _∙_}
 use mathlib.Core.Logic.{⊎-elim}
 use Prim.Native.Nat.{_+_, _-_, _<_, _≤_}

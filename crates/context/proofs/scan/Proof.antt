@@ -1,5 +1,5 @@
 -- `scan` meets its contract. The invariant: the scan of what is left, counted on from here, is the scan of all.
--- The measure is what is left of the length. Assumes nothing.
+-- The measure is what is left of the length.
 use mathlib.Core.Path.{_≡_, refl, sym, _∙_}
 use Prim.Native.Nat.{_-_, _<_, _≤_}
 use native.Mathlib.Omega.{arith}

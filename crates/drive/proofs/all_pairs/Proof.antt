@@ -1,4 +1,4 @@
--- `all_pairs` is safe and ends. Assumes nothing.
+-- `all_pairs` is safe and ends.
 use Prim.Native.Nat.{_-_, _≤_}
 use borrow.Author.Needs.{needs}
 use Rattle.drive.proofs.all_pairs.Statement.{statement}

@@ -1,4 +1,4 @@
--- `cases` is safe and ends. Assumes nothing.
+-- `cases` is safe and ends.
 use Prim.Native.Nat.{_-_, _≤_}
 use borrow.Author.Needs.{needs}
 use Rattle.drive.proofs.cases.Statement.{statement}

@@ -1,4 +1,4 @@
--- `one_stream` is safe and ends. Assumes nothing.
+-- `one_stream` is safe and ends.
 use Prim.Native.Nat.{_-_, _≤_}
 use lib.ListN.{length}
 use borrow.Author.Needs.{needs}

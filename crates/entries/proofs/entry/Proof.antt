@@ -1,4 +1,4 @@
--- `entry` meets its contract. Assumes nothing.
+-- `entry` meets its contract.
 use mathlib.Core.Path.{sym}
 use lib.ListN.{List·getD-eq-default}
 use borrow.Author.Needs.{needs}

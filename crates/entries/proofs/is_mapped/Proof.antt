@@ -1,4 +1,4 @@
--- `is_mapped` meets its contract. Assumes nothing.
+-- `is_mapped` meets its contract.
 use mathlib.Core.Bool.{and-false}
 use native.Mathlib.Omega.{arith}
 use borrow.Author.Tests.{le-leb, not-true, not-false}

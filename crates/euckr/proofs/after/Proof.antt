@@ -1,4 +1,4 @@
--- `after` meets its contract. Assumes nothing.
+-- `after` meets its contract.
 use mir.Syntax.{w64}
 use borrow.Author.Needs.{needs}
 use Rattle.laws.specs.Sizes.{thru}

@@ -1,4 +1,4 @@
--- `extra` meets its contract. Assumes nothing.
+-- `extra` meets its contract.
 use Prim.Native.Nat.{_-_}
 use lib.IntN.{pos}
 use lib.ListN.{getD}

@@ -1,4 +1,4 @@
--- `is_extension` meets its contract. Assumes nothing.
+-- `is_extension` meets its contract.
 use mathlib.Core.Path.{sym}
 use Rattle.pairs.specs.Ranges.{below, up-to}
 use Rattle.euckr.proofs.is_extension.Statement.{statement}

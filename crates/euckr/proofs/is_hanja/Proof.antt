@@ -1,4 +1,4 @@
--- `is_hanja` meets its contract. Assumes nothing.
+-- `is_hanja` meets its contract.
 use native.Mathlib.Omega.{arith}
 use Rattle.pairs.specs.Ranges.{inside, below, above, up-to}
 use Rattle.euckr.proofs.is_hanja.Statement.{statement}

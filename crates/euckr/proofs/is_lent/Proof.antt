@@ -1,4 +1,4 @@
--- `is_lent` meets its contract. Assumes nothing.
+-- `is_lent` meets its contract.
 use borrow.Author.Tests.{eq-eqb, ne-eqb}
 use Rattle.euckr.proofs.is_lent.Statement.{statement}
 use Rattle.euckr.proofs.is_lent.Tie as tie

@@ -1,4 +1,4 @@
--- `is_lone` meets its contract. Assumes nothing.
+-- `is_lone` meets its contract.
 use borrow.Author.Tests.{eq-eqb, ne-eqb}
 use Rattle.euckr.proofs.is_lone.Statement.{statement}
 use Rattle.euckr.proofs.is_lone.Tie as tie

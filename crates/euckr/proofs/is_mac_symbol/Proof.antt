@@ -1,4 +1,4 @@
--- `is_mac_symbol` meets its contract. Assumes nothing.
+-- `is_mac_symbol` meets its contract.
 use native.Mathlib.Omega.{arith}
 use Rattle.pairs.specs.Ranges.{inside, below, above}
 use borrow.Author.Needs.{needs}

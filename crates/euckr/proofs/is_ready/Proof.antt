@@ -1,4 +1,4 @@
--- `is_ready` meets its contract. Assumes nothing.
+-- `is_ready` meets its contract.
 use mathlib.Core.Path.{sym, _∙_}
 use borrow.Author.Needs.{needs}
 use borrow.Author.Tests.{le-leb, lt-leb}

@@ -1,4 +1,4 @@
--- `is_user_pair` meets its contract. Assumes nothing.
+-- `is_user_pair` meets its contract.
 use borrow.Author.Tests.{eq-eqb, ne-eqb}
 use borrow.Author.Needs.{needs}
 use Rattle.euckr.proofs.is_user_pair.Statement.{statement}

@@ -1,4 +1,4 @@
--- `decoded` meets its contract. Assumes nothing.
+-- `decoded` meets its contract.
 use mathlib.Core.Path.{_≡_, sym, _∙_}
 use mathlib.Core.Bool.{true, false}
 use borrow.Author.Needs.{needs}

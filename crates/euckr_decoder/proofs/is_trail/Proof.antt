@@ -1,4 +1,4 @@
--- `is_trail` meets its contract. Assumes nothing.
+-- `is_trail` meets its contract.
 use mathlib.Core.Path.{sym}
 use Rattle.pairs.specs.Ranges.{below, up-to}
 use Rattle.euckr_decoder.proofs.is_trail.Statement.{statement}

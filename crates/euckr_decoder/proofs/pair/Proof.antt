@@ -1,4 +1,4 @@
--- `pair` meets its contract. Assumes nothing.
+-- `pair` meets its contract.
 use mathlib.Core.Path.{sym, _∙_}
 use mathlib.Core.Logic.{⊎-elim}
 use Rattle.euckr_decoder.specs.Ways.{pair-mapped, pair-unmapped, pair-none}

@@ -1,4 +1,4 @@
--- `pointer` meets its contract. Assumes nothing.
+-- `pointer` meets its contract.
 use native.Mathlib.Omega.{arith}
 use Rattle.pairs.specs.Ranges.{range-true}
 use borrow.Author.Needs.{needs}

@@ -1,4 +1,4 @@
--- `tally_of` meets its contract. The invariant: no more is mapped than was passed. The measure is what is left. Assumes nothing.
+-- `tally_of` meets its contract. The invariant: no more is mapped than was passed. The measure is what is left.
 use mathlib.Core.Logic.{⊎-elim}
 use Prim.Native.Nat.{_-_, _≤_}
 use native.Mathlib.Omega.{arith}

@@ -1,4 +1,4 @@
--- `decoder_state` meets its contract. Assumes nothing.
+-- `decoder_state` meets its contract.
 use mathlib.Core.Path.{sym, ap}
 use borrow.Author.Needs.{needs}
 use Rattle.iso2022jp.specs.Iso2022Jp.{stateOf}

@@ -1,4 +1,4 @@
--- `designate` meets its contract. Assumes nothing.
+-- `designate` meets its contract.
 use mathlib.Core.Logic.{inl, inr}
 use borrow.Author.Tests.{ne-eqb}
 use Rattle.iso2022jp.specs.Iso2022Jp.{designated}

@@ -1,4 +1,4 @@
--- `is_between` meets its contract. Assumes nothing.
+-- `is_between` meets its contract.
 use borrow.Author.Tests.{le-leb, lt-leb}
 use Rattle.iso2022jp.proofs.is_between.Statement.{statement}
 use Rattle.iso2022jp.proofs.is_between.Tie as tie

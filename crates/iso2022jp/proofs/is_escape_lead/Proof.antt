@@ -1,4 +1,4 @@
--- `is_escape_lead` meets its contract. Assumes nothing.
+-- `is_escape_lead` meets its contract.
 use borrow.Author.Tests.{eq-eqb, ne-eqb}
 use Rattle.iso2022jp.proofs.is_escape_lead.Statement.{statement}
 use Rattle.iso2022jp.proofs.is_escape_lead.Tie as tie

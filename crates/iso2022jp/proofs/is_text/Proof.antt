@@ -1,4 +1,4 @@
--- `is_text` meets its contract. Assumes nothing.
+-- `is_text` meets its contract.
 use mathlib.Core.Path.{sym, ap}
 use Rattle.laws.specs.Lists.{any}
 use Rattle.iso2022jp.specs.Iso2022Jp.{isText}

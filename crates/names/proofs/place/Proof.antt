@@ -1,4 +1,4 @@
--- `place` meets its contract. Assumes nothing.
+-- `place` meets its contract.
 use mathlib.Core.Path.{ap, _∙_}
 use Rattle.scribe.specs.Page.{onto}
 use Rattle.names.specs.Names.{placeName}

@@ -1,4 +1,4 @@
--- `print_place` is safe: a name ends within the text. Assumes nothing.
+-- `print_place` is safe: a name ends within the text.
 use mathlib.Core.Path.{sym}
 use native.Mathlib.Omega.{arith}
 use lib.Seq.{length-take-le}

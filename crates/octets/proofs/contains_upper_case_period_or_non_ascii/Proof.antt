@@ -1,5 +1,5 @@
 -- `contains_upper_case_period_or_non_ascii` meets its contract. The invariant: no byte passed is unfit, so the label is unfit
--- exactly if what is left of it is. The measure is what is left of the length. Assumes nothing.
+-- exactly if what is left of it is. The measure is what is left of the length.
 use mathlib.Core.Path.{_≡_, refl, sym, _∙_}
 use Prim.Native.Nat.{_+_, _-_, _≤_}
 use native.Mathlib.Omega.{arith}

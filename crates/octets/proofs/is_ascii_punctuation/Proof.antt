@@ -1,4 +1,4 @@
--- `is_ascii_punctuation` meets its contract: one computed test for each arm. Assumes nothing.
+-- `is_ascii_punctuation` meets its contract: one computed test for each arm.
 use mathlib.Core.Bool.{true, false}
 use mathlib.Core.List.{List, [], _∷_}
 use Prim.Native.Nat.{ℕ}

@@ -1,4 +1,4 @@
--- `is_unfit_for_label` meets its contract. Assumes nothing.
+-- `is_unfit_for_label` meets its contract.
 use mathlib.Core.Path.{_≡_, sym, _∙_}
 use mathlib.Core.Bool.{Bool, true, false, _||_}
 use borrow.Author.Needs.{needs}

@@ -1,4 +1,4 @@
--- `first` meets its contract. Assumes nothing.
+-- `first` meets its contract.
 use mathlib.Core.Path.{_≡_, sym, _∙_}
 use mathlib.Core.Bool.{true, false}
 use borrow.Author.Tests.{lt-ltb, le-ltb}

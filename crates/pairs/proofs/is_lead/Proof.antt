@@ -1,4 +1,4 @@
--- `is_lead` meets its contract. Assumes nothing.
+-- `is_lead` meets its contract.
 use mathlib.Core.Path.{sym}
 use Rattle.pairs.specs.Ranges.{below, up-to}
 use Rattle.pairs.proofs.is_lead.Statement.{statement}

@@ -1,4 +1,4 @@
--- `is_lead_or_none` meets its contract. Assumes nothing.
+-- `is_lead_or_none` meets its contract.
 use borrow.Author.Tests.{eq-eqb, ne-eqb}
 use borrow.Author.Needs.{needs}
 use Rattle.pairs.proofs.is_lead_or_none.Statement.{statement}

@@ -1,4 +1,4 @@
--- `is_letter` meets its contract. Assumes nothing.
+-- `is_letter` meets its contract.
 use native.Mathlib.Omega.{arith}
 use Rattle.pairs.specs.Ranges.{inside, below, above, up-to-or}
 use Rattle.pairs.proofs.is_letter.Statement.{statement}

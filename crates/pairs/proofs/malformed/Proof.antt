@@ -1,4 +1,4 @@
--- `malformed` meets its contract. Assumes nothing.
+-- `malformed` meets its contract.
 use borrow.Author.Tests.{lt-ltb, le-ltb}
 use Rattle.pairs.specs.Standard.{returned}
 use Rattle.pairs.specs.Events.{eventOf}

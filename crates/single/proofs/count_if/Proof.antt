@@ -1,4 +1,4 @@
--- `count_if` meets its contract. Assumes nothing.
+-- `count_if` meets its contract.
 use mathlib.Core.Path.{sym}
 use native.Mathlib.Nat.{mod-eq-of-lt}
 use borrow.Author.Needs.{needs}

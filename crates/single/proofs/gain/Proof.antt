@@ -1,4 +1,4 @@
--- `gain` meets its contract. Assumes nothing.
+-- `gain` meets its contract.
 use native.Mathlib.Omega.{arith}
 use Rattle.laws.specs.Sizes.{thru64}
 use borrow.Author.Needs.{needs}

@@ -1,4 +1,4 @@
--- `is_adjacent` meets its contract: each way follows the tests of `adjacentOf`. Assumes nothing.
+-- `is_adjacent` meets its contract: each way follows the tests of `adjacentOf`.
 use Rattle.single.specs.PairLaws.{adjacent-first, adjacent-second, adjacent-not}
 use borrow.Author.Needs.{needs}
 use Rattle.single.proofs.is_adjacent.Statement.{statement}

@@ -1,4 +1,4 @@
--- `is_ascii_pair` meets its contract. Assumes nothing.
+-- `is_ascii_pair` meets its contract.
 use borrow.Author.Needs.{needs}
 use Rattle.single.proofs.is_ascii_pair.Statement.{statement}
 use Rattle.single.proofs.is_ascii_pair.Tie as tie

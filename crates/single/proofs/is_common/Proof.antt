@@ -1,4 +1,4 @@
--- `is_common` meets its contract. Assumes nothing.
+-- `is_common` meets its contract.
 use borrow.Author.Tests.{lt-ltb, le-ltb, le-leb, lt-leb}
 use Rattle.single.specs.Fit.{commonB}
 use Rattle.single.proofs.is_common.Statement.{statement}

@@ -1,4 +1,4 @@
--- `is_fit` meets its contract. Assumes nothing.
+-- `is_fit` meets its contract.
 use mathlib.Core.Path.{sym, _∙_}
 use Rattle.single.specs.Fit.{fitB}
 use borrow.Author.Needs.{needs}

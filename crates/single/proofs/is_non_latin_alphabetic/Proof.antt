@@ -1,4 +1,4 @@
--- `is_non_latin_alphabetic` meets its contract. Assumes nothing.
+-- `is_non_latin_alphabetic` meets its contract.
 use lib.ListN.{List·getD-eq-default}
 use borrow.Author.Needs.{needs}
 use Rattle.single.proofs.is_non_latin_alphabetic.Statement.{statement}

@@ -1,4 +1,4 @@
--- `is_punctuation` meets its contract. Assumes nothing.
+-- `is_punctuation` meets its contract.
 use borrow.Author.Tests.{eq-eqb, ne-eqb}
 use borrow.Author.Needs.{needs}
 use Rattle.single.proofs.is_punctuation.Statement.{statement}

@@ -1,4 +1,4 @@
--- `is_sized` meets its contract. Assumes nothing.
+-- `is_sized` meets its contract.
 use borrow.Author.Tests.{eq-eqb, ne-eqb}
 use Rattle.single.specs.Lent.{sizedB}
 use Rattle.single.proofs.is_sized.Statement.{statement}

@@ -1,4 +1,4 @@
--- `pair_gain` meets its contract. Assumes nothing.
+-- `pair_gain` meets its contract.
 use mathlib.Core.Path.{_≡_, ap, _∙_}
 use Prim.Native.Nat.{_≤_}
 use native.Mathlib.Omega.{arith}

@@ -1,4 +1,4 @@
--- `pair_score` meets its contract. Assumes nothing.
+-- `pair_score` meets its contract.
 use mathlib.Core.Path.{sym}
 use Prim.Native.Nat.{_+_, _*_}
 use native.Mathlib.Omega.{arith}

@@ -1,4 +1,4 @@
--- `words_after` meets its contract. Assumes nothing.
+-- `words_after` meets its contract.
 use native.Mathlib.Omega.{arith}
 use borrow.Author.Tests.{lt-ltb, le-ltb}
 use borrow.Author.Needs.{needs}

@@ -1,4 +1,4 @@
--- `start` meets its contract. Assumes nothing.
+-- `start` meets its contract.
 use borrow.Author.Needs.{needs}
 use Rattle.state.proofs.start.Statement.{statement}
 use Rattle.state.proofs.start.Tie as tie

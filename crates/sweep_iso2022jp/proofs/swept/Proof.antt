@@ -1,4 +1,4 @@
--- `swept` is safe and ends: the measure is how many are left. Assumes nothing.
+-- `swept` is safe and ends: the measure is how many are left.
 use Prim.Native.Nat.{_-_}
 use borrow.Author.Needs.{needs}
 use Rattle.sweep_iso2022jp.proofs.swept.Statement.{statement}

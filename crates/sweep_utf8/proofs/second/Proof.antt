@@ -1,4 +1,4 @@
--- `second` is safe and ends: the measure is what is left of the bytes. Assumes nothing.
+-- `second` is safe and ends: the measure is what is left of the bytes.
 use Prim.Native.Nat.{_-_, _≤_}
 use lib.ListN.{length}
 use borrow.Author.Needs.{needs}

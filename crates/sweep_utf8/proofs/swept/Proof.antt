@@ -1,4 +1,4 @@
--- `swept` is safe and ends: the measure is how far the end is. Assumes nothing.
+-- `swept` is safe and ends: the measure is how far the end is.
 use Prim.Native.Nat.{_-_}
 use borrow.Author.Needs.{needs}
 use Rattle.sweep_utf8.proofs.swept.Statement.{statement}

@@ -1,4 +1,4 @@
--- `swept_edges` is safe and ends: the measure is how many are left. Assumes nothing.
+-- `swept_edges` is safe and ends: the measure is how many are left.
 use Prim.Native.Nat.{_-_}
 use borrow.Author.Needs.{needs}
 use Rattle.sweep_utf8.proofs.swept_edges.Statement.{statement}

@@ -1,4 +1,4 @@
--- `are_rest` meets its contract. Assumes nothing.
+-- `are_rest` meets its contract.
 use borrow.Author.Tests.{eq-eqb, ne-eqb}
 use mathlib.Core.Bool.{and-true}
 use Rattle.tables.specs.Tables.{exactB}

@@ -1,4 +1,4 @@
--- `are_sized` meets its contract. Assumes nothing.
+-- `are_sized` meets its contract.
 use mathlib.Core.Path.{sym, _∙_}
 use borrow.Author.Needs.{needs}
 use Rattle.tables.specs.TablesLaws.{sized-each}

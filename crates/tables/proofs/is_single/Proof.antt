@@ -1,4 +1,4 @@
--- `is_single` meets its contract. Assumes nothing.
+-- `is_single` meets its contract.
 use borrow.Author.Tests.{eq-eqb, ne-eqb}
 use mathlib.Core.Bool.{and-true}
 use Rattle.tables.specs.Tables.{exactB}

@@ -1,4 +1,4 @@
--- `up` meets its contract. Assumes nothing.
+-- `up` meets its contract.
 use borrow.Author.Needs.{needs}
 use Rattle.tally.specs.Counts.{upOf}
 use Rattle.tally.proofs.up.Statement.{statement}

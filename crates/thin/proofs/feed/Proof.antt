@@ -1,6 +1,5 @@
 -- `feed` meets its contract: a walk of its MIR, by hand. The borrow is opened, the front is copied out, `step` is called, the front that it gives is stored over the old one, and the borrow is closed at it.
 -- `step` takes the rest of the parameters and their lifetimes' tokens as they came: they are passed on whole, and at exit there is no more of them than that nothing is said of their last values.
--- Assumes nothing.
 use mathlib.Core.Path.{_≡_, refl, ap}
 use Prim.Native.Nat.{ℕ}
 use mathlib.Core.List.{[], _∷_, List}

@@ -1,4 +1,4 @@
--- `step` meets its contract. Assumes nothing.
+-- `step` meets its contract.
 use mathlib.Core.Path.{ap}
 use Rattle.thin.specs.Thin.{steppedAs}
 use borrow.Author.Needs.{needs}

@@ -1,4 +1,4 @@
--- `pick` meets its contract. Assumes nothing.
+-- `pick` meets its contract.
 use borrow.Author.Tests.{eq-eqb, ne-eqb}
 use Rattle.utf8.proofs.pick.Statement.{statement}
 use Rattle.utf8.proofs.pick.Tie as tie

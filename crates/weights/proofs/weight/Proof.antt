@@ -1,4 +1,4 @@
--- `weight` meets its contract. Assumes nothing.
+-- `weight` meets its contract.
 use mathlib.Core.Path.{sym}
 use native.Mathlib.Omega.{arith}
 use lib.IntN.{pos}

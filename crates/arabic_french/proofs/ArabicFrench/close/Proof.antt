@@ -1,4 +1,4 @@
--- `ArabicFrench::close` meets its contract: a run over a space. Assumes nothing.
+-- `ArabicFrench::close` meets its contract: a run over a space.
 use mathlib.Core.Path.{_∙_}
 use Rattle.single.specs.AnswersLaws.{ran-space}
 use Rattle.arabic_french.specs.ArabicFrench.{ranOf, closedOf}

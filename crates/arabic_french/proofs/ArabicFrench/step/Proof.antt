@@ -1,4 +1,4 @@
--- `ArabicFrench::step` meets its contract. Assumes nothing.
+-- `ArabicFrench::step` meets its contract.
 use mathlib.Core.Path.{_≡_}
 use native.Mathlib.Omega.{arith}
 use lib.IntN.{ℤ, _+ℤ_}

@@ -1,4 +1,4 @@
--- `LatinCaseState::after` meets its contract. Assumes nothing.
+-- `LatinCaseState::after` meets its contract.
 use borrow.Author.Tests.{eq-eqb, ne-eqb, le-leb, lt-leb}
 use borrow.Author.Needs.{needs}
 use Rattle.arabic_french.proofs.LatinCaseState.after.Statement.{statement}

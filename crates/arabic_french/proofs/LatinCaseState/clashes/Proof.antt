@@ -1,4 +1,4 @@
--- `LatinCaseState::clashes` meets its contract. Assumes nothing.
+-- `LatinCaseState::clashes` meets its contract.
 use borrow.Author.Tests.{eq-eqb, ne-eqb}
 use borrow.Author.Needs.{needs}
 use Rattle.arabic_french.proofs.LatinCaseState.clashes.Statement.{statement}

@@ -1,4 +1,4 @@
--- `LatinCaseState::gain` meets its contract. Assumes nothing.
+-- `LatinCaseState::gain` meets its contract.
 use mathlib.Core.Path.{_≡_, sym, _∙_}
 use mathlib.Core.Bool.{true, false}
 use native.Mathlib.Omega.{arith}

@@ -1,4 +1,4 @@
--- `Big5::error` meets its contract. Assumes nothing.
+-- `Big5::error` meets its contract.
 use mathlib.Core.Path.{_≡_, sym, ap, _∙_}
 use mathlib.Core.Bool.{true, false}
 use Rattle.big5.specs.Scoring.{isPair, errorOf, after as afterOf}

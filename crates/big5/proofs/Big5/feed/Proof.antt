@@ -1,4 +1,4 @@
--- `Big5::feed` meets its contract: the loop of `Going`, whose measure is what is left of the part. Assumes nothing.
+-- `Big5::feed` meets its contract: the loop of `Going`, whose measure is what is left of the part.
 use mathlib.Core.Path.{ap, sym, _∙_}
 use Prim.Native.Nat.{_+_, _-_}
 use native.Mathlib.Omega.{arith}

@@ -1,4 +1,4 @@
--- `Big5::holds` meets its contract. Assumes nothing.
+-- `Big5::holds` meets its contract.
 use Rattle.big5.specs.Scoring.{holdsOf}
 use borrow.Author.Needs.{needs}
 use Rattle.big5.proofs.Big5.holds.Statement.{statement}

@@ -1,4 +1,4 @@
--- `Big5::is_sound_for` meets its contract. Assumes nothing.
+-- `Big5::is_sound_for` meets its contract.
 use mathlib.Core.Path.{sym, _∙_}
 use Rattle.big5.specs.Big5.{soundB}
 use borrow.Author.Needs.{needs}

@@ -1,4 +1,4 @@
--- `Big5::letter` meets its contract. Assumes nothing.
+-- `Big5::letter` meets its contract.
 use mir.Syntax.{w64}
 use Rattle.laws.specs.Sizes.{thru}
 use Rattle.big5.specs.Scoring.{letterOf}

@@ -1,4 +1,4 @@
--- `Big5::point` meets its contract. Assumes nothing.
+-- `Big5::point` meets its contract.
 use mathlib.Core.Path.{ap, _∙_}
 use native.Mathlib.Omega.{arith}
 use borrow.Author.Tests.{lt-ltb, le-ltb}

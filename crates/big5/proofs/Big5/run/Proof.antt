@@ -1,4 +1,4 @@
--- `Big5::run` meets its contract. Assumes nothing.
+-- `Big5::run` meets its contract.
 use mathlib.Core.Path.{_≡_, sym, _∙_}
 use mathlib.Core.Bool.{true}
 use borrow.Author.Needs.{needs}

@@ -1,4 +1,4 @@
--- `Big5::step` meets its contract. Assumes nothing.
+-- `Big5::step` meets its contract.
 use mathlib.Core.Path.{ap, _∙_}
 use native.Mathlib.Omega.{arith}
 use Rattle.laws.specs.Sizes.{thru64}

@@ -1,4 +1,4 @@
--- `Scale::of_hanzi` meets its contract. Assumes nothing.
+-- `Scale::of_hanzi` meets its contract.
 use native.Mathlib.Omega.{arith}
 use mir.Syntax.{w64}
 use Rattle.laws.specs.Sizes.{thru}

@@ -1,4 +1,4 @@
--- `Scale::read` meets its contract. Assumes nothing.
+-- `Scale::read` meets its contract.
 use native.Mathlib.Omega.{arith}
 use Rattle.laws.specs.Sizes.{thru64}
 use Rattle.weights.specs.Weights.{term}

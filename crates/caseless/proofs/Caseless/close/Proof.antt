@@ -1,4 +1,4 @@
--- `Caseless::close` meets its contract: a run over a space. Assumes nothing.
+-- `Caseless::close` meets its contract: a run over a space.
 use mathlib.Core.Path.{_∙_}
 use Rattle.single.specs.AnswersLaws.{ran-space}
 use Rattle.caseless.specs.Caseless.{ranOf, closedOf}

@@ -1,4 +1,4 @@
--- `Caseless::feed` meets its contract: the loop of `Going`, whose measure is what is left of the part. Assumes nothing.
+-- `Caseless::feed` meets its contract: the loop of `Going`, whose measure is what is left of the part.
 use mathlib.Core.Path.{ap}
 use Prim.Native.Nat.{_+_, _*_, _-_}
 use native.Mathlib.Omega.{arith}

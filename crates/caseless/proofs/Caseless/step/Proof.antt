@@ -1,4 +1,4 @@
--- `Caseless::step` meets its contract. Assumes nothing.
+-- `Caseless::step` meets its contract.
 use native.Mathlib.Omega.{arith}
 use Rattle.laws.specs.Sizes.{thru64}
 use Rattle.caseless.specs.Caseless.{stepOf}

@@ -1,4 +1,4 @@
--- `Context::count` meets its contract. Assumes nothing.
+-- `Context::count` meets its contract.
 use native.Mathlib.Omega.{arith}
 use lib.ListN.{length-take}
 use Rattle.context.proofs.Context.count.Statement.{statement}

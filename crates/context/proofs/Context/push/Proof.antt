@@ -1,4 +1,4 @@
--- `Context::push` meets its contract. Assumes nothing.
+-- `Context::push` meets its contract.
 use mathlib.Core.Path.{_∙_}
 use native.Mathlib.Omega.{arith}
 use borrow.Author.Needs.{needs}

@@ -1,4 +1,4 @@
--- `Context::push_byte` meets its contract. Assumes nothing.
+-- `Context::push_byte` meets its contract.
 use native.Mathlib.Omega.{arith}
 use Rattle.context.specs.ContextLaws.{push-first, push-second, push-third}
 use Rattle.context.proofs.Context.push_byte.Statement.{statement}

@@ -1,4 +1,4 @@
--- `accepted` meets its contract. Assumes nothing.
+-- `accepted` meets its contract.
 use borrow.Author.Needs.{needs}
 use Rattle.detector.proofs.feed.accepted.Statement.{statement}
 use Rattle.detector.proofs.feed.accepted.Tie as tie

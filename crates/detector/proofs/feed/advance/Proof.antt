@@ -1,4 +1,4 @@
--- `advance` meets its contract. Assumes nothing.
+-- `advance` meets its contract.
 use mathlib.Core.Path.{_≡_, ap}
 use mathlib.Core.List.{List}
 use Prim.Native.Nat.{ℕ, _-_, _≤_}

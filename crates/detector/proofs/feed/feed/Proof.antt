@@ -1,4 +1,4 @@
--- `feed` meets its contract. Assumes nothing.
+-- `feed` meets its contract.
 use mathlib.Core.Path.{_≡_, sym, _∙_}
 use lib.ListN.{length}
 use Rattle.tables.specs.Tables.{Tables, tables, sizedB}

@@ -1,4 +1,4 @@
--- `judged` meets its contract. Assumes nothing.
+-- `judged` meets its contract.
 use native.Mathlib.Omega.{arith}
 use mathlib.Core.Path.{_≡_, sym, _∙_}
 use mathlib.Core.Bool.{true}

@@ -1,4 +1,4 @@
--- `after` meets its contract. Assumes nothing.
+-- `after` meets its contract.
 use borrow.Author.Needs.{needs}
 use Rattle.detector.proofs.front.after.Statement.{statement}
 use Rattle.detector.proofs.front.after.Tie as tie

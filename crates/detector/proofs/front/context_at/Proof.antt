@@ -1,4 +1,4 @@
--- `context_at` meets its contract. Assumes nothing.
+-- `context_at` meets its contract.
 use native.Mathlib.Omega.{arith}
 use mathlib.Core.Path.{_∙_}
 use Rattle.detector.specs.FrontLaws.{context-emptied, context-kept}

@@ -1,4 +1,4 @@
--- `counted` meets its contract. Assumes nothing.
+-- `counted` meets its contract.
 use native.Mathlib.Omega.{arith}
 use Rattle.laws.specs.Lists.{count-most}
 use Rattle.octets.specs.Octets.{nonAscii}

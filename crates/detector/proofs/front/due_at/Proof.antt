@@ -1,4 +1,4 @@
--- `due_at` meets its contract. Assumes nothing.
+-- `due_at` meets its contract.
 use native.Mathlib.Omega.{arith}
 use Rattle.detector.specs.FrontLaws.{due-after, due-part}
 use borrow.Author.Needs.{needs}

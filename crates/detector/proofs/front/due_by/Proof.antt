@@ -1,4 +1,4 @@
--- `due_by` meets its contract. Assumes nothing.
+-- `due_by` meets its contract.
 use native.Mathlib.Omega.{arith}
 use Rattle.detector.specs.FrontLaws.{due-earlier, due-escape, due-non-ascii, due-nowhere, within-by}
 use Rattle.detector.specs.declared.front.Trigger.the-variants.{Escape, NonAscii}

@@ -1,4 +1,4 @@
--- `escaped` meets its contract. Assumes nothing.
+-- `escaped` meets its contract.
 use Rattle.detector.specs.Front.{escBy}
 use borrow.Author.Needs.{needs}
 use Rattle.detector.proofs.front.escaped.Statement.{statement}

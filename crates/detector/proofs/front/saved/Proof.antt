@@ -1,4 +1,4 @@
--- `saved` meets its contract. Assumes nothing.
+-- `saved` meets its contract.
 use Rattle.detector.specs.Front.{contextBy}
 use borrow.Author.Needs.{needs}
 use Rattle.detector.proofs.front.saved.Statement.{statement}

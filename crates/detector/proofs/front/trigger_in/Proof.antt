@@ -1,4 +1,4 @@
--- `trigger_in` meets its contract. Assumes nothing.
+-- `trigger_in` meets its contract.
 use mathlib.Core.Path.{sym, ap, _∙_}
 use Rattle.detector.specs.Front.{foundAs}
 use Rattle.detector.specs.FrontLaws.{trigger-earlier, trigger-found}

@@ -1,4 +1,4 @@
--- `with` meets its contract: what is left of the bytes, added from here on, gives what all of them give from the start. Assumes nothing.
+-- `with` meets its contract: what is left of the bytes, added from here on, gives what all of them give from the start.
 use mathlib.Core.Path.{_≡_, refl, sym, _∙_}
 use Prim.Native.Nat.{_≤_, _-_}
 use native.Mathlib.Omega.{arith}

@@ -1,4 +1,4 @@
--- `with_byte` meets its contract. Assumes nothing.
+-- `with_byte` meets its contract.
 use mathlib.Core.Path.{refl}
 use Rattle.digest.specs.Digest.{withByte}
 use borrow.Author.Needs.{needs}

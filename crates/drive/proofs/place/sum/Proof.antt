@@ -1,4 +1,4 @@
--- `sum` is safe. Assumes nothing.
+-- `sum` is safe.
 use mathlib.Core.Path.{_≡_}
 use native.Mathlib.Omega.{arith}
 use mir.Syntax.{w64}

@@ -1,4 +1,4 @@
--- `EucKr::around_hangul` meets its contract. Assumes nothing.
+-- `EucKr::around_hangul` meets its contract.
 use Rattle.euckr.specs.Ways.{around-part, around-fits, around-read}
 use borrow.Author.Needs.{needs}
 use Rattle.euckr.proofs.EucKr.around_hangul.Statement.{statement}

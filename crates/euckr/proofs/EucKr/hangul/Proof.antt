@@ -1,4 +1,4 @@
--- `EucKr::hangul` meets its contract. Assumes nothing.
+-- `EucKr::hangul` meets its contract.
 use mathlib.Core.Path.{sym, ap, _∙_}
 use mathlib.Core.Logic.{inl, inr, ⊎-elim}
 use Rattle.pairs.specs.Sums.{kept, read}

@@ -1,4 +1,4 @@
--- `EucKr::hanja` meets its contract. Assumes nothing.
+-- `EucKr::hanja` meets its contract.
 use Rattle.euckr.specs.Scoring.{hanjaOf}
 use Rattle.euckr.specs.Ways.{hanja-part, hanja-part3, hanja-fits, hanja-read}
 use borrow.Author.Needs.{needs}

@@ -1,4 +1,4 @@
--- `EucKr::holds` meets its contract. Assumes nothing.
+-- `EucKr::holds` meets its contract.
 use Rattle.euckr.specs.Scoring.{holdsOf}
 use borrow.Author.Needs.{needs}
 use Rattle.euckr.proofs.EucKr.holds.Statement.{statement}

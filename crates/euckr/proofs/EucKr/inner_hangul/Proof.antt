@@ -1,4 +1,4 @@
--- `EucKr::inner_hangul` meets its contract. Assumes nothing.
+-- `EucKr::inner_hangul` meets its contract.
 use Rattle.euckr.specs.Scoring.{innerOf}
 use Rattle.euckr.specs.Ways.{inner-part, inner-fits, inner-read}
 use borrow.Author.Needs.{needs}

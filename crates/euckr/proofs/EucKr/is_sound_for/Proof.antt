@@ -1,4 +1,4 @@
--- `EucKr::is_sound_for` meets its contract. Assumes nothing.
+-- `EucKr::is_sound_for` meets its contract.
 use mathlib.Core.Path.{sym, _∙_}
 use borrow.Author.Tests.{le-leb, lt-leb}
 use Rattle.euckr.specs.EucKr.{soundB}

@@ -1,4 +1,4 @@
--- `EucKr::letter` meets its contract. Assumes nothing.
+-- `EucKr::letter` meets its contract.
 use Rattle.pairs.specs.Sums.{read}
 use Rattle.euckr.specs.Scoring.{letterOf}
 use borrow.Author.Needs.{needs}

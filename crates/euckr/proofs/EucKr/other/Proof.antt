@@ -1,4 +1,4 @@
--- `EucKr::other` meets its contract. Assumes nothing.
+-- `EucKr::other` meets its contract.
 use native.Mathlib.Omega.{arith}
 use Rattle.weights.specs.Weights.{term}
 use Rattle.pairs.specs.Pairs.{releasedOf}

@@ -1,4 +1,4 @@
--- `EucKr::pending` meets its contract. Assumes nothing.
+-- `EucKr::pending` meets its contract.
 use borrow.Author.Needs.{needs}
 use Rattle.euckr.proofs.EucKr.pending.Statement.{statement}
 use Rattle.euckr.proofs.EucKr.pending.Tie as tie

@@ -1,4 +1,4 @@
--- `EucKr::step` meets its contract. Assumes nothing.
+-- `EucKr::step` meets its contract.
 use mathlib.Core.Path.{ap, _∙_}
 use native.Mathlib.Omega.{arith}
 use Rattle.euckr.specs.Scoring.{after as afterOf, lent}

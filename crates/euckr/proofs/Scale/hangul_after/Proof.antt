@@ -1,4 +1,4 @@
--- `Scale::hangul_after` meets its contract. Assumes nothing.
+-- `Scale::hangul_after` meets its contract.
 use mir.Syntax.{w64}
 use Rattle.laws.specs.Sizes.{thru}
 use borrow.Author.Needs.{needs}

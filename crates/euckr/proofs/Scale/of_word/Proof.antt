@@ -1,4 +1,4 @@
--- `Scale::of_word` meets its contract. Assumes nothing.
+-- `Scale::of_word` meets its contract.
 use borrow.Author.Needs.{needs}
 use borrow.Author.Tests.{lt-ltb, le-ltb}
 use mir.Syntax.{w64}

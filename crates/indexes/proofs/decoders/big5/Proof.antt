@@ -1,4 +1,4 @@
--- `decoders::big5` meets its contract. Assumes nothing.
+-- `decoders::big5` meets its contract.
 use Prim.Native.Nat.{_-_, _≤_}
 use borrow.Author.Needs.{needs}
 use Rattle.indexes.proofs.decoders.big5.Statement.{statement}

@@ -1,4 +1,4 @@
--- `decoders::big5_lead` meets its contract. Assumes nothing.
+-- `decoders::big5_lead` meets its contract.
 use Prim.Native.Nat.{_-_, _≤_}
 use borrow.Author.Needs.{needs}
 use Rattle.indexes.proofs.decoders.big5_lead.Statement.{statement}

@@ -1,4 +1,4 @@
--- `decoders::euckr_lead` meets its contract. Assumes nothing.
+-- `decoders::euckr_lead` meets its contract.
 use Prim.Native.Nat.{_-_, _≤_}
 use borrow.Author.Needs.{needs}
 use Rattle.indexes.proofs.decoders.euckr_lead.Statement.{statement}

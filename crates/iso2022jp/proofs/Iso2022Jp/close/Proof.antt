@@ -1,4 +1,4 @@
--- `Iso2022Jp::close` meets its contract. Assumes nothing.
+-- `Iso2022Jp::close` meets its contract.
 use mathlib.Core.Path.{sym, _∙_}
 use borrow.Author.Needs.{needs}
 use Rattle.laws.specs.Answer.{if-fit, if-unfit}

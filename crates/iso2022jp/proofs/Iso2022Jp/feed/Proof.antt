@@ -1,4 +1,4 @@
--- `Iso2022Jp::feed` meets its contract: the loop of `Going`, whose measure is what is left of the part. Assumes nothing.
+-- `Iso2022Jp::feed` meets its contract: the loop of `Going`, whose measure is what is left of the part.
 use mathlib.Core.Path.{refl, ap, sym, _∙_}
 use Prim.Native.Nat.{_-_}
 use native.Mathlib.Omega.{arith}

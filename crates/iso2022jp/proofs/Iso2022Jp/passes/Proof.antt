@@ -1,4 +1,4 @@
--- `Iso2022Jp::passes` meets its contract. Assumes nothing.
+-- `Iso2022Jp::passes` meets its contract.
 use mathlib.Core.Path.{sym, _∙_}
 use mathlib.Core.Bool.{true, false, false≢true}
 use borrow.Author.Needs.{needs}

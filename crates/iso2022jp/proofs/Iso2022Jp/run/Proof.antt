@@ -1,4 +1,4 @@
--- `Iso2022Jp::run` meets its contract. Assumes nothing.
+-- `Iso2022Jp::run` meets its contract.
 use mathlib.Core.Path.{sym, _∙_}
 use mathlib.Core.Bool.{and-false}
 use borrow.Author.Needs.{needs}

@@ -1,4 +1,4 @@
--- `of_iso2022jp` meets its contract. Assumes nothing.
+-- `of_iso2022jp` meets its contract.
 use borrow.Author.Needs.{needs}
 use Rattle.kinds.proofs.machine.of_iso2022jp.Statement.{statement}
 use Rattle.kinds.proofs.machine.of_iso2022jp.Tie as tie

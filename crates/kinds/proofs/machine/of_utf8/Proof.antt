@@ -1,4 +1,4 @@
--- `of_utf8` meets its contract. Assumes nothing.
+-- `of_utf8` meets its contract.
 use borrow.Author.Needs.{needs}
 use Rattle.kinds.proofs.machine.of_utf8.Statement.{statement}
 use Rattle.kinds.proofs.machine.of_utf8.Tie as tie

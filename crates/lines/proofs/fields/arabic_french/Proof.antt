@@ -1,4 +1,4 @@
--- `arabic_french` meets its contract. Assumes nothing.
+-- `arabic_french` meets its contract.
 use Rattle.scribe.specs.PageLaws.{follow}
 use Rattle.lines.specs.Fields.{arabicFrenchText}
 use borrow.Author.Needs.{needs}

@@ -1,4 +1,4 @@
--- `big5` meets its contract. Assumes nothing.
+-- `big5` meets its contract.
 use Rattle.scribe.specs.PageLaws.{follow}
 use Rattle.lines.specs.Fields.{big5Text}
 use borrow.Author.Needs.{needs}

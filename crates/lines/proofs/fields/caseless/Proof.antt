@@ -1,4 +1,4 @@
--- `caseless` meets its contract. Assumes nothing.
+-- `caseless` meets its contract.
 use Rattle.scribe.specs.PageLaws.{follow}
 use Rattle.lines.specs.Fields.{caselessText}
 use borrow.Author.Needs.{needs}

@@ -1,4 +1,4 @@
--- `class` meets its contract. Assumes nothing.
+-- `class` meets its contract.
 use Rattle.scribe.specs.PageLaws.{follow}
 use Rattle.lines.specs.Fields.{classText}
 use borrow.Author.Needs.{needs}

@@ -1,4 +1,4 @@
--- `count` meets its contract. Assumes nothing.
+-- `count` meets its contract.
 use Rattle.scribe.specs.PageLaws.{follow}
 use borrow.Author.Needs.{needs}
 use Rattle.lines.proofs.fields.count.Statement.{statement}

@@ -1,4 +1,4 @@
--- `euckr` meets its contract. Assumes nothing.
+-- `euckr` meets its contract.
 use Rattle.scribe.specs.PageLaws.{follow}
 use Rattle.lines.specs.Fields.{euckrText}
 use borrow.Author.Needs.{needs}

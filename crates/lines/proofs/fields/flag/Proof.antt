@@ -1,4 +1,4 @@
--- `flag` meets its contract. Assumes nothing.
+-- `flag` meets its contract.
 use Rattle.scribe.specs.PageLaws.{follow}
 use borrow.Author.Needs.{needs}
 use Rattle.lines.proofs.fields.flag.Statement.{statement}

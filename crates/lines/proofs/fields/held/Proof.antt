@@ -1,4 +1,4 @@
--- `held` meets its contract. Assumes nothing.
+-- `held` meets its contract.
 use mir.Syntax.{w64}
 use Rattle.laws.specs.Sizes.{thru}
 use Rattle.scribe.specs.PageLaws.{follow}

@@ -1,4 +1,4 @@
--- `hex` meets its contract. Assumes nothing.
+-- `hex` meets its contract.
 use Rattle.scribe.specs.PageLaws.{follow}
 use borrow.Author.Needs.{needs}
 use Rattle.lines.proofs.fields.hex.Statement.{statement}

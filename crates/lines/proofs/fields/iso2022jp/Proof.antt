@@ -1,4 +1,4 @@
--- `iso2022jp` meets its contract. Assumes nothing.
+-- `iso2022jp` meets its contract.
 use Rattle.scribe.specs.PageLaws.{follow}
 use Rattle.lines.specs.Fields.{iso2022jpText}
 use borrow.Author.Needs.{needs}

@@ -1,4 +1,4 @@
--- `logical` meets its contract. Assumes nothing.
+-- `logical` meets its contract.
 use Rattle.scribe.specs.PageLaws.{follow}
 use Rattle.lines.specs.Fields.{logicalText}
 use borrow.Author.Needs.{needs}

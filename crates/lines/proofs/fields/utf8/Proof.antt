@@ -1,4 +1,4 @@
--- `utf8` meets its contract. Assumes nothing.
+-- `utf8` meets its contract.
 use Rattle.scribe.specs.PageLaws.{follow}
 use Rattle.lines.specs.Fields.{utf8Text}
 use borrow.Author.Needs.{needs}

@@ -1,4 +1,4 @@
--- `visual` meets its contract. Assumes nothing.
+-- `visual` meets its contract.
 use Rattle.scribe.specs.PageLaws.{follow}
 use Rattle.lines.specs.Fields.{visualText}
 use borrow.Author.Needs.{needs}

@@ -1,4 +1,4 @@
--- `words` meets its contract. Assumes nothing.
+-- `words` meets its contract.
 use Rattle.scribe.specs.PageLaws.{follow}
 use Rattle.lines.specs.Fields.{wordsText}
 use borrow.Author.Needs.{needs}

@@ -1,4 +1,4 @@
--- `end_line` meets its contract. Assumes nothing.
+-- `end_line` meets its contract.
 use mathlib.Core.Path.{_∙_}
 use Rattle.scribe.specs.PageLaws.{onto-one}
 use borrow.Author.Needs.{needs}

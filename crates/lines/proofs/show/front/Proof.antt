@@ -1,4 +1,4 @@
--- `front` meets its contract. Assumes nothing.
+-- `front` meets its contract.
 use Rattle.scribe.specs.PageLaws.{follow}
 use Rattle.lines.specs.Show.{frontText}
 use borrow.Author.Needs.{needs}

@@ -1,4 +1,4 @@
--- `lead` meets its contract. Assumes nothing.
+-- `lead` meets its contract.
 use Rattle.scribe.specs.PageLaws.{follow}
 use borrow.Author.Needs.{needs}
 use Rattle.lines.proofs.show.lead.Statement.{statement}

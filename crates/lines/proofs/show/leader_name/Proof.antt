@@ -1,4 +1,4 @@
--- `leader_name` meets its contract. Assumes nothing.
+-- `leader_name` meets its contract.
 use Rattle.lines.specs.Show.{leadText}
 use borrow.Author.Needs.{needs}
 use Rattle.lines.proofs.show.leader_name.Statement.{statement}

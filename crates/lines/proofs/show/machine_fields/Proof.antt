@@ -1,4 +1,4 @@
--- `machine_fields` meets its contract. Assumes nothing.
+-- `machine_fields` meets its contract.
 use Rattle.lines.specs.Show.{recordText}
 use borrow.Author.Needs.{needs}
 use Rattle.lines.proofs.show.machine_fields.Statement.{statement}

@@ -1,4 +1,4 @@
--- `place` meets its contract. Assumes nothing.
+-- `place` meets its contract.
 use Rattle.scribe.specs.PageLaws.{follow}
 use Rattle.lines.specs.Show.{placeText}
 use borrow.Author.Needs.{needs}

@@ -1,4 +1,4 @@
--- `reply` meets its contract. Assumes nothing.
+-- `reply` meets its contract.
 use Rattle.scribe.specs.PageLaws.{follow}
 use Rattle.lines.specs.Show.{replyText}
 use borrow.Author.Needs.{needs}

@@ -1,4 +1,4 @@
--- `saved` meets its contract. Assumes nothing.
+-- `saved` meets its contract.
 use mathlib.Core.Path.{_≡_, ap, _∙_}
 use Rattle.scribe.specs.Page.{onto}
 use Rattle.scribe.specs.PageLaws.{onto-one, follow}

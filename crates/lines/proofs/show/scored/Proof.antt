@@ -1,4 +1,4 @@
--- `scored` meets its contract. Assumes nothing.
+-- `scored` meets its contract.
 use Rattle.scribe.specs.PageLaws.{follow}
 use mir.Syntax.{w64}
 use Rattle.laws.specs.Sizes.{thru}

@@ -1,4 +1,4 @@
--- `state` meets its contract. Assumes nothing.
+-- `state` meets its contract.
 use Rattle.scribe.specs.PageLaws.{follow}
 use Rattle.lines.specs.Show.{stateText}
 use borrow.Author.Needs.{needs}

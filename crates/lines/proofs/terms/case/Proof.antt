@@ -1,4 +1,4 @@
--- `case` meets its contract. Assumes nothing.
+-- `case` meets its contract.
 use Rattle.lines.specs.Names.{caseName}
 use borrow.Author.Needs.{needs}
 use Rattle.lines.proofs.terms.case.Statement.{statement}

@@ -1,4 +1,4 @@
--- `cj` meets its contract. Assumes nothing.
+-- `cj` meets its contract.
 use Rattle.lines.specs.Names.{cjName}
 use borrow.Author.Needs.{needs}
 use Rattle.lines.proofs.terms.cj.Statement.{statement}

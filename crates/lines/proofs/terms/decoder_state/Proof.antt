@@ -1,4 +1,4 @@
--- `decoder_state` meets its contract. Assumes nothing.
+-- `decoder_state` meets its contract.
 use Rattle.lines.specs.Names.{stateName}
 use borrow.Author.Needs.{needs}
 use Rattle.lines.proofs.terms.decoder_state.Statement.{statement}

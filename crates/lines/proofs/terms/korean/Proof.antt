@@ -1,4 +1,4 @@
--- `korean` meets its contract. Assumes nothing.
+-- `korean` meets its contract.
 use Rattle.lines.specs.Names.{koreanName}
 use borrow.Author.Needs.{needs}
 use Rattle.lines.proofs.terms.korean.Statement.{statement}

@@ -1,4 +1,4 @@
--- `output_state` meets its contract. Assumes nothing.
+-- `output_state` meets its contract.
 use Rattle.lines.specs.Names.{outName}
 use borrow.Author.Needs.{needs}
 use Rattle.lines.proofs.terms.output_state.Statement.{statement}

@@ -1,4 +1,4 @@
--- `Logical::close` meets its contract: a run over a space. Assumes nothing.
+-- `Logical::close` meets its contract: a run over a space.
 use mathlib.Core.Path.{_∙_}
 use Rattle.single.specs.AnswersLaws.{ran-space}
 use Rattle.logical.specs.Logical.{ranOf, closedOf}

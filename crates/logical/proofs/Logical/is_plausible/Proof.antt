@@ -1,4 +1,4 @@
--- `Logical::is_plausible` meets its contract. Assumes nothing.
+-- `Logical::is_plausible` meets its contract.
 use mathlib.Core.Path.{_≡_, sym, _∙_}
 use mathlib.Core.Bool.{true, false}
 use Rattle.single.specs.Punctuation.{punctuationOf}

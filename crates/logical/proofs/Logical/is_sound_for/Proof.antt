@@ -1,4 +1,4 @@
--- `Logical::is_sound_for` meets its contract. Assumes nothing.
+-- `Logical::is_sound_for` meets its contract.
 use borrow.Author.Tests.{le-leb, lt-leb}
 use borrow.Author.Needs.{needs}
 use Rattle.logical.proofs.Logical.is_sound_for.Statement.{statement}

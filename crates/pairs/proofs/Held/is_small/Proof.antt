@@ -1,4 +1,4 @@
--- `Held::is_small` meets its contract. Assumes nothing.
+-- `Held::is_small` meets its contract.
 use borrow.Author.Needs.{needs}
 use Rattle.pairs.specs.Pairs.{smallHeldB}
 use Rattle.pairs.specs.Sums.{read, size-neg, size-pos}

@@ -1,4 +1,4 @@
--- `Held::released` meets its contract. Assumes nothing.
+-- `Held::released` meets its contract.
 use mathlib.Core.Path.{sym, ap, _∙_}
 use Rattle.pairs.specs.Pairs.{releasedOf}
 use Rattle.pairs.specs.Sums.{read}

@@ -1,4 +1,4 @@
--- `are_in_order` meets its contract: the first places passed. The measure is how many are left. Assumes nothing.
+-- `are_in_order` meets its contract: the first places passed. The measure is how many are left.
 use Prim.Native.Nat.{_-_}
 use native.Mathlib.Omega.{arith}
 use mathlib.Core.Path.{sym, _∙_}

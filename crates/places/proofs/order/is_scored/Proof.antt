@@ -1,4 +1,4 @@
--- `is_scored` meets its contract. Assumes nothing.
+-- `is_scored` meets its contract.
 use mir.Syntax.{w64}
 use Rattle.laws.specs.Sizes.{thru}
 use Rattle.places.specs.Order.{scoredB}

@@ -1,4 +1,4 @@
--- `is_unfed` meets its contract. Assumes nothing.
+-- `is_unfed` meets its contract.
 use mathlib.Core.Path.{sym, _∙_}
 use borrow.Author.Needs.{needs}
 use Rattle.places.specs.Order.{unfedB}

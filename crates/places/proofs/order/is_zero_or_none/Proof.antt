@@ -1,4 +1,4 @@
--- `is_zero_or_none` meets its contract. Assumes nothing.
+-- `is_zero_or_none` meets its contract.
 use mir.Syntax.{w64}
 use Rattle.laws.specs.Sizes.{thru}
 use Rattle.places.specs.Order.{zeroOrNoneB}

@@ -1,4 +1,4 @@
--- `reach` meets its contract. Assumes nothing.
+-- `reach` meets its contract.
 use mathlib.Core.Path.{sym, _∙_}
 use Rattle.laws.specs.Tests.{off, on}
 use Rattle.kinds.specs.Sound.{reachOf}

@@ -1,4 +1,4 @@
--- `begun` meets its contract. Assumes nothing.
+-- `begun` meets its contract.
 use borrow.Author.Needs.{needs}
 use Rattle.places.proofs.slate.begun.Statement.{statement}
 use Rattle.places.proofs.slate.begun.Tie as tie

@@ -1,4 +1,4 @@
--- `feed` meets its contract. Assumes nothing.
+-- `feed` meets its contract.
 use mathlib.Core.Path.{sym, _∙_}
 use Rattle.laws.specs.Tests.{off, on}
 use Rattle.tables.specs.Tables.{Tables, tables}

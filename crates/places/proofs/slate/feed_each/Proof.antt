@@ -1,4 +1,4 @@
--- `feed_each` meets its contract: each place is given its own tables. Assumes nothing.
+-- `feed_each` meets its contract: each place is given its own tables.
 use mathlib.Core.Path.{_≡_, refl, sym, ap, subst, _∙_}
 use native.Mathlib.Omega.{arith}
 use lib.ListN.{length}

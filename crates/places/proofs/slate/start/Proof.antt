@@ -1,4 +1,4 @@
--- `start` meets its contract. Assumes nothing.
+-- `start` meets its contract.
 use Rattle.places.specs.Slate.{startOf}
 use borrow.Author.Needs.{needs}
 use Rattle.places.proofs.slate.start.Statement.{statement}

@@ -1,4 +1,4 @@
--- `taken` meets its contract. Assumes nothing.
+-- `taken` meets its contract.
 use borrow.Author.Tests.{eq-eqb, ne-eqb}
 use borrow.Author.Needs.{needs}
 use Rattle.places.proofs.slate.taken.Statement.{statement}

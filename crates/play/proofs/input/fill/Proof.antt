@@ -1,4 +1,4 @@
--- `fill` meets its contract. Assumes nothing.
+-- `fill` meets its contract.
 use native.Mathlib.Omega.{arith}
 use borrow.Author.Tests.{leb-true, not-true}
 use Rattle.play.specs.Within.{unlike}

@@ -1,4 +1,4 @@
--- `halves` meets its contract. Assumes nothing.
+-- `halves` meets its contract.
 use native.Mathlib.Omega.{arith}
 use borrow.Author.Needs.{needs}
 use Rattle.play.proofs.input.halves.Statement.{statement}

@@ -1,4 +1,4 @@
--- `octets` meets its contract. Assumes nothing.
+-- `octets` meets its contract.
 use native.Mathlib.Omega.{arith}
 use borrow.Author.Needs.{needs}
 use Rattle.play.proofs.input.octets.Statement.{statement}

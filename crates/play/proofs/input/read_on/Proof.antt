@@ -1,4 +1,4 @@
--- `read_on` is safe and ends. Assumes nothing.
+-- `read_on` is safe and ends.
 use mathlib.Core.Path.{_≡_, _∙_}
 use Prim.Native.Nat.{_≤_, _-_}
 use native.Mathlib.Omega.{arith}

@@ -1,4 +1,4 @@
--- `signed_words` meets its contract. Assumes nothing.
+-- `signed_words` meets its contract.
 use native.Mathlib.Omega.{arith}
 use borrow.Author.Needs.{needs}
 use Rattle.play.proofs.input.signed_words.Statement.{statement}

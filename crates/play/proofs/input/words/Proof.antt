@@ -1,4 +1,4 @@
--- `words` meets its contract. Assumes nothing.
+-- `words` meets its contract.
 use native.Mathlib.Omega.{arith}
 use borrow.Author.Needs.{needs}
 use Rattle.play.proofs.input.words.Statement.{statement}

@@ -1,4 +1,4 @@
--- `fed` meets its contract. Assumes nothing.
+-- `fed` meets its contract.
 use native.Mathlib.Omega.{arith}
 use borrow.Author.Needs.{needs}
 use Rattle.play.proofs.turns.fed.Statement.{statement}

@@ -1,4 +1,4 @@
--- `lend_singles` meets its contract. Assumes nothing.
+-- `lend_singles` meets its contract.
 use mathlib.Core.Path.{subst, _∙_}
 use Prim.Native.Nat.{ℕ}
 use Rattle.play.specs.Within.{Within}

@@ -1,4 +1,4 @@
--- `play` is safe and ends. Assumes nothing.
+-- `play` is safe and ends.
 use mathlib.Core.Path.{sym, subst}
 use Prim.Native.Nat.{ℕ, _≤_, _-_}
 use native.Mathlib.Omega.{arith}

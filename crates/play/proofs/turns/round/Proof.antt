@@ -1,4 +1,4 @@
--- `round` meets its contract. Assumes nothing.
+-- `round` meets its contract.
 use mathlib.Core.Path.{_≡_, subst, sym, _∙_}
 use Prim.Native.Nat.{ℕ}
 use lib.ListN.{length}

@@ -1,4 +1,4 @@
--- `turn` meets its contract. Assumes nothing.
+-- `turn` meets its contract.
 use mathlib.Core.Path.{_≡_, sym, _∙_}
 use native.Mathlib.Omega.{arith}
 use lib.ListN.{length-take, length-drop}

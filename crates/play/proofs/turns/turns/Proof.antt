@@ -1,4 +1,4 @@
--- `turns` meets its contract. Assumes nothing.
+-- `turns` meets its contract.
 use mathlib.Core.Path.{_≡_, refl, subst, sym, _∙_}
 use Prim.Native.Nat.{ℕ, _≤_, _-_}
 use native.Mathlib.Omega.{arith}

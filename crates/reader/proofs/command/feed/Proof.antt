@@ -1,4 +1,4 @@
--- `feed` meets its contract. Assumes nothing.
+-- `feed` meets its contract.
 use native.Mathlib.Omega.{arith}
 use Rattle.reader.specs.Ways.{feed-short, feed-bad, feed-long, feed-more, feed-whole}
 use borrow.Author.Needs.{needs}

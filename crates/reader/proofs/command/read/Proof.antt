@@ -1,4 +1,4 @@
--- `read` meets its contract. Assumes nothing.
+-- `read` meets its contract.
 use mathlib.Core.Path.{_∙_}
 use native.Mathlib.Omega.{arith}
 use Rattle.reader.specs.Ways.{read-none, read-start, read-feed, read-show, read-lend, read-bad}

@@ -1,4 +1,4 @@
--- `start` meets its contract. Assumes nothing.
+-- `start` meets its contract.
 use borrow.Author.Tests.{lt-ltb, le-ltb}
 use Rattle.reader.specs.Command.{startOf}
 use borrow.Author.Needs.{needs}

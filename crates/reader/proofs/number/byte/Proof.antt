@@ -1,4 +1,4 @@
--- `byte` meets its contract. Assumes nothing.
+-- `byte` meets its contract.
 use mathlib.Core.Path.{_∙_}
 use native.Mathlib.Omega.{arith}
 use Rattle.reader.specs.LittleLaws.{byte-there, byte-past}

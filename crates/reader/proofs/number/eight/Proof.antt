@@ -1,4 +1,4 @@
--- `eight` meets its contract. Assumes nothing.
+-- `eight` meets its contract.
 use lib.ListN.{drop}
 use native.Mathlib.Omega.{arith}
 use Rattle.reader.specs.LittleLaws.{four-are, eight-are}

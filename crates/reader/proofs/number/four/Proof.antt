@@ -1,4 +1,4 @@
--- `four` meets its contract. Assumes nothing.
+-- `four` meets its contract.
 use lib.ListN.{drop}
 use native.Mathlib.Omega.{arith}
 use Rattle.reader.specs.LittleLaws.{four-are}

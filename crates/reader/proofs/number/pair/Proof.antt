@@ -1,4 +1,4 @@
--- `pair` meets its contract. Assumes nothing.
+-- `pair` meets its contract.
 use mathlib.Core.Path.{_∙_}
 use lib.ListN.{drop}
 use native.Mathlib.Omega.{arith}

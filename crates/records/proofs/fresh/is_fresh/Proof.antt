@@ -1,4 +1,4 @@
--- `is_fresh` meets its contract. Assumes nothing.
+-- `is_fresh` meets its contract.
 use Rattle.records.specs.Fresh.{freshB}
 use borrow.Author.Needs.{needs}
 use Rattle.records.proofs.fresh.is_fresh.Statement.{statement}

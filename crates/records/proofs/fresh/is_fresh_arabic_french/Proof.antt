@@ -1,4 +1,4 @@
--- `is_fresh_arabic_french` meets its contract. Assumes nothing.
+-- `is_fresh_arabic_french` meets its contract.
 use mathlib.Core.Path.{sym, _∙_}
 use borrow.Author.Needs.{needs}
 use Rattle.records.specs.Fresh.{freshArabicFrenchB}

@@ -1,4 +1,4 @@
--- `is_fresh_caseless` meets its contract. Assumes nothing.
+-- `is_fresh_caseless` meets its contract.
 use Rattle.records.specs.Fresh.{freshCaselessB}
 use borrow.Author.Needs.{needs}
 use Rattle.records.proofs.fresh.is_fresh_caseless.Statement.{statement}

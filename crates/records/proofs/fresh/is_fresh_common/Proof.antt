@@ -1,4 +1,4 @@
--- `is_fresh_common` meets its contract. Assumes nothing.
+-- `is_fresh_common` meets its contract.
 use borrow.Author.Tests.{eq-eqb, ne-eqb}
 use Rattle.records.specs.Fresh.{freshCommonB}
 use Rattle.records.proofs.fresh.is_fresh_common.Statement.{statement}

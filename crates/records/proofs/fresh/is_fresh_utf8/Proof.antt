@@ -1,4 +1,4 @@
--- `is_fresh_utf8` meets its contract. Assumes nothing.
+-- `is_fresh_utf8` meets its contract.
 use borrow.Author.Tests.{eq-eqb, ne-eqb}
 use Rattle.records.specs.Fresh.{freshUtf8B}
 use Rattle.records.proofs.fresh.is_fresh_utf8.Statement.{statement}

@@ -1,4 +1,4 @@
--- `is_sound` meets its contract. Assumes nothing.
+-- `is_sound` meets its contract.
 use Rattle.kinds.specs.Sound.{soundB}
 use borrow.Author.Needs.{needs}
 use borrow.Author.Tests.{le-leb, lt-leb}

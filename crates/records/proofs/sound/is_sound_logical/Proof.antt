@@ -1,4 +1,4 @@
--- `is_sound_logical` meets its contract. Assumes nothing.
+-- `is_sound_logical` meets its contract.
 use borrow.Author.Tests.{le-leb, lt-leb}
 use borrow.Author.Needs.{needs}
 use Rattle.kinds.specs.Sound.{soundLogicalB}

@@ -1,4 +1,4 @@
--- `apart` is safe and ends. Assumes nothing.
+-- `apart` is safe and ends.
 use Prim.Native.Nat.{_-_, _≤_}
 use borrow.Author.Needs.{needs}
 use Rattle.replies.proofs.groups.apart.Statement.{statement}

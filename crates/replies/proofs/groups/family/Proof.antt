@@ -1,4 +1,4 @@
--- `family` is safe and ends. Assumes nothing.
+-- `family` is safe and ends.
 use Prim.Native.Nat.{_-_, _≤_}
 use borrow.Author.Needs.{needs}
 use Rattle.replies.proofs.groups.family.Statement.{statement}

@@ -1,4 +1,4 @@
--- `out_of_order` is safe and ends. Assumes nothing.
+-- `out_of_order` is safe and ends.
 use Prim.Native.Nat.{_-_, _≤_}
 use borrow.Author.Needs.{needs}
 use Rattle.replies.proofs.groups.out_of_order.Statement.{statement}

@@ -1,4 +1,4 @@
--- `past` is safe and ends. Assumes nothing.
+-- `past` is safe and ends.
 use Prim.Native.Nat.{_-_, _≤_}
 use borrow.Author.Needs.{needs}
 use Rattle.replies.proofs.groups.past.Statement.{statement}

@@ -1,4 +1,4 @@
--- `told_apart` is safe and ends. Assumes nothing.
+-- `told_apart` is safe and ends.
 use Prim.Native.Nat.{_-_, _≤_}
 use borrow.Author.Needs.{needs}
 use Rattle.replies.proofs.groups.told_apart.Statement.{statement}

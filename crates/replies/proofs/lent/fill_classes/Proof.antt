@@ -1,4 +1,4 @@
--- `fill_classes` is safe and ends. Assumes nothing.
+-- `fill_classes` is safe and ends.
 use mathlib.Core.Path.{_≡_}
 use Prim.Native.Nat.{_-_, _≤_}
 use lib.ListN.{length, length-set}

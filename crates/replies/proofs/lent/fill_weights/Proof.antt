@@ -1,4 +1,4 @@
--- `fill_weights` is safe and ends. Assumes nothing.
+-- `fill_weights` is safe and ends.
 use lib.ListN.{length, length-set}
 use native.Mathlib.Omega.{arith}
 use borrow.Author.Needs.{needs}

@@ -1,4 +1,4 @@
--- `decimal` is safe and ends. Assumes nothing.
+-- `decimal` is safe and ends.
 use Prim.Native.Nat.{_-_, _<_, _≤_}
 use lib.ListN.{length}
 use borrow.Author.Needs.{needs}

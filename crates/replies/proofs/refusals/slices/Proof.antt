@@ -1,4 +1,4 @@
--- `slices` is safe and ends. Assumes nothing.
+-- `slices` is safe and ends.
 use Prim.Native.Nat.{_-_, _≤_}
 use borrow.Author.Needs.{needs}
 use Rattle.replies.proofs.refusals.slices.Statement.{statement}

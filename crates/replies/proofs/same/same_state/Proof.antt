@@ -1,4 +1,4 @@
--- `same_state` is safe and ends. Assumes nothing.
+-- `same_state` is safe and ends.
 use Prim.Native.Nat.{_-_, _≤_}
 use borrow.Author.Needs.{needs}
 use Rattle.replies.proofs.same.same_state.Statement.{statement}

@@ -1,4 +1,4 @@
--- `print` is safe and ends. Assumes nothing.
+-- `print` is safe and ends.
 use Prim.Native.Nat.{_-_, _≤_}
 use borrow.Author.Needs.{needs}
 use Rattle.replies.proofs.sheet.print.Statement.{statement}

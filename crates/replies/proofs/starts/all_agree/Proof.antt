@@ -1,4 +1,4 @@
--- `all_agree` is safe and ends. Assumes nothing.
+-- `all_agree` is safe and ends.
 use Prim.Native.Nat.{_-_, _≤_}
 use borrow.Author.Needs.{needs}
 use Rattle.replies.proofs.starts.all_agree.Statement.{statement}

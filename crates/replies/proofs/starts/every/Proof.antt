@@ -1,4 +1,4 @@
--- `every` is safe and ends. Assumes nothing.
+-- `every` is safe and ends.
 use Prim.Native.Nat.{_-_, _≤_}
 use borrow.Author.Needs.{needs}
 use Rattle.replies.proofs.starts.every.Statement.{statement}

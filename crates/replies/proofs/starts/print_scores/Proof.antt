@@ -1,4 +1,4 @@
--- `print_scores` is safe and ends. Assumes nothing.
+-- `print_scores` is safe and ends.
 use Prim.Native.Nat.{_-_, _≤_}
 use borrow.Author.Needs.{needs}
 use Rattle.replies.proofs.starts.print_scores.Statement.{statement}

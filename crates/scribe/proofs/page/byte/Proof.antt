@@ -1,4 +1,4 @@
--- `byte` meets its contract. Assumes nothing.
+-- `byte` meets its contract.
 use Rattle.scribe.specs.PageLaws.{room, full}
 use borrow.Author.Needs.{needs}
 use Rattle.scribe.proofs.page.byte.Statement.{statement}

@@ -1,4 +1,4 @@
--- `decimal` meets its contract. Assumes nothing.
+-- `decimal` meets its contract.
 use mathlib.Core.Path.{_≡_, ap, _∙_}
 use Rattle.scribe.specs.Page.{page, onto}
 use Rattle.scribe.specs.TextLaws.{decimal-is}

@@ -1,4 +1,4 @@
--- `digit` meets its contract. Assumes nothing.
+-- `digit` meets its contract.
 use borrow.Author.Tests.{lt-ltb, le-ltb}
 use borrow.Author.Needs.{needs}
 use Rattle.scribe.proofs.page.digit.Statement.{statement}

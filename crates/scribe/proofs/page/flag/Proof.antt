@@ -1,4 +1,4 @@
--- `flag` meets its contract. Assumes nothing.
+-- `flag` meets its contract.
 use Rattle.scribe.specs.Page.{onto}
 use Rattle.scribe.specs.Text.{flagOf}
 use borrow.Author.Needs.{needs}

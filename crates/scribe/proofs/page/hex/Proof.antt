@@ -1,4 +1,4 @@
--- `hex` meets its contract. Assumes nothing.
+-- `hex` meets its contract.
 use Rattle.scribe.specs.Page.{onto}
 use Rattle.scribe.specs.Text.{hexOf}
 use borrow.Author.Needs.{needs}

@@ -1,4 +1,4 @@
--- `signed` meets its contract. Assumes nothing.
+-- `signed` meets its contract.
 use mathlib.Core.Path.{_≡_, ap, _∙_}
 use mathlib.Core.Bool.{true, false}
 use lib.IntN.{pos}

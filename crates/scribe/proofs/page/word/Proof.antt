@@ -1,4 +1,4 @@
--- `word` meets its contract: what is left of the text, written from here on, gives what the whole gives from the start. Assumes nothing.
+-- `word` meets its contract: what is left of the text, written from here on, gives what the whole gives from the start.
 use mathlib.Core.Path.{_≡_, refl, sym, _∙_}
 use Prim.Native.Nat.{_≤_, _-_}
 use native.Mathlib.Omega.{arith}

@@ -1,4 +1,4 @@
--- `is_plain` meets its contract. Assumes nothing.
+-- `is_plain` meets its contract.
 use borrow.Author.Needs.{needs}
 use borrow.Author.Tests.{eq-eqb, ne-eqb}
 use Rattle.state.specs.Order.{plainB}

@@ -1,4 +1,4 @@
--- `is_saved` meets its contract. Assumes nothing.
+-- `is_saved` meets its contract.
 use mathlib.Core.Path.{sym, _∙_}
 use borrow.Author.Needs.{needs}
 use borrow.Author.Tests.{le-leb, lt-leb, lt-ltb, le-ltb, ne-eqb}

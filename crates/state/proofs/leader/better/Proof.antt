@@ -1,4 +1,4 @@
--- `better` meets its contract. Assumes nothing.
+-- `better` meets its contract.
 use mathlib.Core.Path.{_≡_}
 use mathlib.Core.Bool.{true, false}
 use lib.Signed.{ltZ}

@@ -1,4 +1,4 @@
--- `greatest` meets its contract: the first places were looked at. The measure is how many are left. Assumes nothing.
+-- `greatest` meets its contract: the first places were looked at. The measure is how many are left.
 use Prim.Native.Nat.{_-_}
 use native.Mathlib.Omega.{arith}
 use borrow.Author.Needs.{needs}

@@ -1,4 +1,4 @@
--- `of` meets its contract. Assumes nothing.
+-- `of` meets its contract.
 use mathlib.Core.Path.{sym, ap, _∙_}
 use Rattle.state.specs.Leader.{leaderAs}
 use Rattle.state.specs.LeaderLaws.{leader-ascii, leader-is}

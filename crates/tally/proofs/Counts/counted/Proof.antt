@@ -1,4 +1,4 @@
--- `Counts::counted` meets its contract. Assumes nothing.
+-- `Counts::counted` meets its contract.
 use borrow.Author.Needs.{needs}
 use Rattle.tally.proofs.Counts.counted.Statement.{statement}
 use Rattle.tally.proofs.Counts.counted.Tie as tie

@@ -1,4 +1,4 @@
--- `Utf8::close` meets its contract. Assumes nothing.
+-- `Utf8::close` meets its contract.
 use mathlib.Core.Path.{sym, _∙_}
 use borrow.Author.Needs.{needs}
 use borrow.Author.Tests.{eq-eqb, ne-eqb}

@@ -1,4 +1,4 @@
--- `Utf8::feed` meets its contract: the loop of `Going`, whose measure is what is left of the part. Assumes nothing.
+-- `Utf8::feed` meets its contract: the loop of `Going`, whose measure is what is left of the part.
 use mathlib.Core.Path.{ap, sym, _∙_}
 use Prim.Native.Nat.{_-_}
 use native.Mathlib.Omega.{arith}

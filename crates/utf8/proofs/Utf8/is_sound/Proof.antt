@@ -1,4 +1,4 @@
--- `Utf8::is_sound` meets its contract. Assumes nothing.
+-- `Utf8::is_sound` meets its contract.
 use mathlib.Core.Path.{_≡_, sym, _∙_}
 use mathlib.Core.Bool.{Bool, true, false}
 use borrow.Author.Needs.{needs}

@@ -1,4 +1,4 @@
--- `Utf8::lead` meets its contract. Assumes nothing.
+-- `Utf8::lead` meets its contract.
 use mathlib.Core.Path.{_∙_}
 use borrow.Author.Needs.{needs}
 use Rattle.utf8.specs.Utf8Laws.{lead-ascii, lead-early, lead-two, lead-three, lead-four, lead-late}

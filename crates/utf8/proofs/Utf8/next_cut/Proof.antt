@@ -1,4 +1,4 @@
--- `Utf8::next_cut` meets its contract. Assumes nothing.
+-- `Utf8::next_cut` meets its contract.
 use mathlib.Core.Path.{_≡_, sym, _∙_}
 use mathlib.Core.Bool.{true, false}
 use borrow.Author.Needs.{needs}

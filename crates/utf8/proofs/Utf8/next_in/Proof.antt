@@ -1,4 +1,4 @@
--- `Utf8::next_in` meets its contract. Assumes nothing.
+-- `Utf8::next_in` meets its contract.
 use borrow.Author.Tests.{eq-eqb, ne-eqb}
 use Rattle.utf8.specs.Utf8.{nextIn}
 use Rattle.utf8.proofs.Utf8.next_in.Statement.{statement}

@@ -1,4 +1,4 @@
--- `Utf8::run` meets its contract. Assumes nothing.
+-- `Utf8::run` meets its contract.
 use mathlib.Core.Path.{sym, _∙_}
 use mathlib.Core.Bool.{and-false}
 use borrow.Author.Needs.{needs}

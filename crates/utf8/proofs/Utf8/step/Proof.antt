@@ -1,4 +1,4 @@
--- `Utf8::step` meets its contract. Assumes nothing.
+-- `Utf8::step` meets its contract.
 use mathlib.Core.Path.{_∙_}
 use borrow.Author.Needs.{needs}
 use Rattle.utf8.specs.Utf8Laws.{step-lead, step-below, step-above, step-within}

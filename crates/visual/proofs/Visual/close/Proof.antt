@@ -1,4 +1,4 @@
--- `Visual::close` meets its contract: a run over a space. Assumes nothing.
+-- `Visual::close` meets its contract: a run over a space.
 use mathlib.Core.Path.{_∙_}
 use Rattle.single.specs.AnswersLaws.{ran-space}
 use Rattle.visual.specs.Visual.{ranOf, closedOf}

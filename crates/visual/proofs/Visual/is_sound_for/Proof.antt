@@ -1,4 +1,4 @@
--- `Visual::is_sound_for` meets its contract. Assumes nothing.
+-- `Visual::is_sound_for` meets its contract.
 use borrow.Author.Tests.{le-leb, lt-leb}
 use borrow.Author.Needs.{needs}
 use Rattle.visual.proofs.Visual.is_sound_for.Statement.{statement}

@@ -1,4 +1,4 @@
--- `Machine::close` meets its contract. Assumes nothing.
+-- `Machine::close` meets its contract.
 use Rattle.weights.specs.Weights.{perByte}
 use Rattle.kinds.specs.Kinds.{closedOf}
 use Rattle.kinds.specs.KindsLaws.{small-utf-8, small-iso2022jp, small-euckr, small-big5, small-caseless, small-logical, small-visual, small-arabicFrench, closed-euckr, closed-big5}

@@ -1,4 +1,4 @@
--- `Machine::renewed` meets its contract. Assumes nothing.
+-- `Machine::renewed` meets its contract.
 use Rattle.kinds.specs.Kinds.{freshIn}
 use borrow.Author.Needs.{needs}
 use Rattle.kinds.proofs.machine.Machine.renewed.Statement.{statement}

@@ -1,4 +1,4 @@
--- `Machine::run` meets its contract. Assumes nothing.
+-- `Machine::run` meets its contract.
 use Prim.Native.Nat.{_*_}
 use lib.ListN.{length}
 use Rattle.weights.specs.Weights.{perByte}

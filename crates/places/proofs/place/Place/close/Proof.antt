@@ -1,4 +1,4 @@
--- `Place::close` meets its contract. Assumes nothing.
+-- `Place::close` meets its contract.
 use Prim.Native.Nat.{_*_, _≤_}
 use native.Mathlib.Omega.{arith}
 use lib.IntN.{natAbs}

@@ -1,4 +1,4 @@
--- `Place::feed` meets its contract. Assumes nothing.
+-- `Place::feed` meets its contract.
 use mir.Syntax.{w64}
 use lib.IntN.{ℤ}
 use lib.ListN.{length}

@@ -1,4 +1,4 @@
--- `Place::settled` meets its contract. Assumes nothing.
+-- `Place::settled` meets its contract.
 use Prim.Native.Nat.{_+_, _^_, _<_}
 use native.Mathlib.Omega.{arith}
 use lib.IntN.{ℤ, natAbs, _+ℤ_}

@@ -1,4 +1,4 @@
--- `filled` meets its contract. Assumes nothing.
+-- `filled` meets its contract.
 use borrow.Author.Needs.{needs}
 use Rattle.play.proofs.turns.Stand.filled.Statement.{statement}
 use Rattle.play.proofs.turns.Stand.filled.Tie as tie

@@ -1,4 +1,4 @@
--- `Front::fresh` meets its contract. Assumes nothing.
+-- `Front::fresh` meets its contract.
 use borrow.Author.Needs.{needs}
 use Rattle.state.proofs.front.Front.fresh.Statement.{statement}
 use Rattle.state.proofs.front.Front.fresh.Tie as tie

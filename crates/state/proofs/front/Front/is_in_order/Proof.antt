@@ -1,4 +1,4 @@
--- `is_in_order` meets its contract. Assumes nothing.
+-- `is_in_order` meets its contract.
 use borrow.Author.Tests.{le-leb, lt-leb}
 use borrow.Author.Needs.{needs}
 use Rattle.state.specs.Order.{frontB}

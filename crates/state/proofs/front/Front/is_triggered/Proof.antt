@@ -1,4 +1,4 @@
--- `is_triggered` meets its contract. Assumes nothing.
+-- `is_triggered` meets its contract.
 use borrow.Author.Needs.{needs}
 use Rattle.state.proofs.front.Front.is_triggered.Statement.{statement}
 use Rattle.state.proofs.front.Front.is_triggered.Tie as tie

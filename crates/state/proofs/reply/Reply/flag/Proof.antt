@@ -1,4 +1,4 @@
--- `Reply::flag` meets its contract. Assumes nothing.
+-- `Reply::flag` meets its contract.
 use Rattle.state.specs.Reply.{replyFlag}
 use borrow.Author.Needs.{needs}
 use Rattle.state.proofs.reply.Reply.flag.Statement.{statement}

@@ -1,4 +1,4 @@
--- `Reply::number` meets its contract. Assumes nothing.
+-- `Reply::number` meets its contract.
 use Rattle.state.specs.Reply.{numberOf}
 use borrow.Author.Needs.{needs}
 use Rattle.state.proofs.reply.Reply.number.Statement.{statement}
