@@ -1,62 +1,14 @@
--- Lists whose elements are gone through one by one, by a loop: each is changed, or each is tested.
+-- Lists whose elements are gone through one by one, by a loop, and tested.
 use mathlib.Core.Path.{_≡_, refl, sym, ap, _∙_}
 use mathlib.Core.Bool.{Bool, true, false, _&&_}
-use mathlib.Core.List.{List, [], _∷_, map}
+use mathlib.Core.List.{List, [], _∷_}
 use Prim.Native.Nat.{ℕ, zero, suc, _+_, _≤_, _<_}
 use native.Mathlib.Nat.{le-of-suc-le-suc, not-suc-le-zero, add-zero}
 use native.Mathlib.Numerals.{add-one}
 use native.Mathlib.Omega.{arith}
-use lib.ListN.{length, getD, drop, set}
+use lib.ListN.{length, getD, drop}
 use lib.Seq.{drop-cons}
 use Rattle.laws.specs.Tests.{both}
-
--- ---- the first i elements went through f
-module _ {A : Type 0} (f : A → A) where
-  unfoldable pub changed : ℕ → List A → List A
-  changed zero xs = xs
-  changed (suc i) [] = []
-  changed (suc i) (x ∷ xs) = f x ∷ changed i xs
-
-  pub changed-none : (xs : List A) → xs ≡ changed 0 xs
-  unfolding changed
-  changed-none xs = refl
-
-  pub changed-length : (i : ℕ) (xs : List A) → length (changed i xs) ≡ length xs
-  unfolding changed
-  changed-length zero xs = refl
-  changed-length (suc i) [] = refl
-  changed-length (suc i) (x ∷ xs) = ap suc (changed-length i xs)
-
-  -- the next one did not
-  pub changed-at : (i : ℕ) (xs : List A) (d : A) → getD (changed i xs) i d ≡ getD xs i d
-  unfolding changed
-  changed-at zero xs d = refl
-  changed-at (suc i) [] d = refl
-  changed-at (suc i) (x ∷ xs) d = changed-at i xs d
-
-  pub changed-next : (i : ℕ) (xs : List A) (d : A) → i < length xs → set (changed i xs) i (f (getD xs i d)) ≡ changed (suc i) xs
-  unfolding changed
-  changed-next zero [] d h = absurd (not-suc-le-zero h)
-  changed-next zero (x ∷ xs) d h = refl
-  changed-next (suc i) [] d h = absurd (not-suc-le-zero h)
-  changed-next (suc i) (x ∷ xs) d h = ap (λ (l : List A). f x ∷ l) (changed-next i xs d (le-of-suc-le-suc h))
-
-  pub changed-all : (i : ℕ) (xs : List A) → length xs ≤ i → changed i xs ≡ map f xs
-  unfolding changed
-  changed-all zero [] h = refl
-  changed-all zero (x ∷ xs) h = absurd (not-suc-le-zero h)
-  changed-all (suc i) [] h = refl
-  changed-all (suc i) (x ∷ xs) h = ap (λ (l : List A). f x ∷ l) (changed-all i xs (le-of-suc-le-suc h))
-
-  pub map-at : (i : ℕ) (xs : List A) (d : A) → i < length xs → getD (map f xs) i d ≡ f (getD xs i d)
-  map-at zero [] d h = absurd (not-suc-le-zero h)
-  map-at zero (x ∷ xs) d h = refl
-  map-at (suc i) [] d h = absurd (not-suc-le-zero h)
-  map-at (suc i) (x ∷ xs) d h = map-at i xs d (le-of-suc-le-suc h)
-
-  pub map-length : (xs : List A) → length (map f xs) ≡ length xs
-  map-length [] = refl
-  map-length (x ∷ xs) = ap suc (map-length xs)
 
 -- ---- each element passes the test of its place, the first one that of k
 module _ {A : Type 0} (test : ℕ → A → Bool) where
@@ -98,11 +50,7 @@ module _ {A : Type 0} (test : ℕ → A → Bool) (P : ℕ → A → Type 0) whe
   true-each f k [] e = refl
   true-each f k (x ∷ xs) e = rw (f k x (e .0), true-each f (suc k) xs (e .1))
 
--- from one of P to one of Q, through a change of each
-pub each-map : {A : Type 0} (P Q : ℕ → A → Type 0) (g : A → A) → ((k : ℕ) (x : A) → P k x → Q k (g x)) → (k : ℕ) (xs : List A) → EachFrom P k xs → EachFrom Q k (map g xs)
-each-map P Q g f k [] e = tt
-each-map P Q g f k (x ∷ xs) e = (f k x (e .0), each-map P Q g f (suc k) xs (e .1))
-
+-- from one of P to one of Q
 pub each-weaken : {A : Type 0} (P Q : ℕ → A → Type 0) → ((k : ℕ) (x : A) → P k x → Q k x) → (k : ℕ) (xs : List A) → EachFrom P k xs → EachFrom Q k xs
 each-weaken P Q f k [] e = tt
 each-weaken P Q f k (x ∷ xs) e = (f k x (e .0), each-weaken P Q f (suc k) xs (e .1))
