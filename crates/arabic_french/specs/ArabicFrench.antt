@@ -4,7 +4,7 @@ use mathlib.Core.List.{List}
 use Prim.Native.Nat.{ℕ, _%_}
 use lib.Dec.{eqb}
 use lib.IntN.{ℤ, pos, _+ℤ_}
-use Rattle.laws.specs.Answer.{Answer, ran, unfit, answered, SmallBy}
+use Rattle.laws.specs.Answer.{Answer, ran, unfit, answered, BoundedBy}
 use Rattle.laws.specs.Run.{Outcome, live, dropped}
 use Rattle.octets.specs.Octets.{ascii}
 use Rattle.weights.specs.Weights.{weightOf, case}
@@ -21,8 +21,8 @@ use Rattle.arabic_french.specs.declared.LatinCaseState.the-variants.{Spa
 use Rattle.arabic_french.specs.declared.Ran.{Ran}
 use Rattle.arabic_french.specs.declared.Ran.the-variants.{Live, Dropped, Unfit}
 
-abbrev pub freshOf : ArabicFrench
-freshOf = record { prev = 0; «case_state» = Space; «prev_ascii» = true; «current_word_len» = 0; «longest_word» = 0 }
+abbrev pub fresh : ArabicFrench
+fresh = record { prev = 0; «case_state» = Space; «prev_ascii» = true; «current_word_len» = 0; «longest_word» = 0 }
 
 -- the case of the Latin letters so far
 abbrev pub capitalAfter : LatinCaseState → LatinCaseState
@@ -88,5 +88,5 @@ unfoldable pub closedOf : Lent → ArabicFrench → Ran
 closedOf t m = closedBy stepOf (soundB room) Live Dropped Unfit t m
 
 -- a live answer's score changes by at most c
-abbrev pub Small : ℕ → Ran → Type 0
-Small c r = SmallBy c (answerOf r)
+abbrev pub Bounded : ℕ → Ran → Type 0
+Bounded c r = BoundedBy c (answerOf r)

@@ -7,7 +7,7 @@ use Rattle.laws.specs.Memory.{Forgets, Quiet, forgets}
 use Rattle.single.specs.Class.{classOf, caselessOf, latinLetter, isCapital}
 use Rattle.single.specs.HeadLaws.{quietAt, is-ascii, not-255, no-letter}
 use Rattle.single.specs.Lent.{Lent}
-use Rattle.arabic_french.specs.ArabicFrench.{freshOf, capitalAfter, caseOf, stepOf}
+use Rattle.arabic_french.specs.ArabicFrench.{fresh, capitalAfter, caseOf, stepOf}
 use Rattle.arabic_french.specs.declared.ArabicFrench.{ArabicFrench}
 use Rattle.arabic_french.specs.declared.LatinCaseState.{LatinCaseState}
 use Rattle.arabic_french.specs.declared.LatinCaseState.the-variants.{Space, Upper, Lower, AllCaps}
@@ -45,5 +45,5 @@ module _ (t : Lent) where
         forgotten = λ k l a b. ap (λ (c : LatinCaseState). (caselessOf t b, c)) (case-same (k .1) (l .1) a b);
       }
 
-  pub arabicFrench-forgets : Forgets (quietAt t) (stepOf t) freshOf
+  pub arabicFrench-forgets : Forgets (quietAt t) (stepOf t) fresh
   arabicFrench-forgets = forgets arabicFrench-quiet (0, Space)

@@ -6,7 +6,7 @@ ghost use lib.ListN.{length};
 ghost use Rattle.laws.specs.Answer.{ran};
 ghost use Rattle.laws.specs.Run.{alive, run};
 ghost use Rattle.weights.specs.Weights.{term, perByte};
-ghost use Rattle.arabic_french.specs.ArabicFrench.{freshOf, caseOf, clashOf, caseGainOf, stepOf, answerOf, ranAs, ranOf, closedOf, Sound, soundB, Small};
+ghost use Rattle.arabic_french.specs.ArabicFrench.{fresh, caseOf, clashOf, caseGainOf, stepOf, answerOf, ranAs, ranOf, closedOf, Sound, soundB, Bounded};
 ghost use Rattle.laws.specs.Limit.{room};
 ghost use Rattle.single.specs.Fit.{Fit};
 ghost use Rattle.single.specs.Lent.{lent, Sized};
@@ -35,7 +35,7 @@ pub enum Ran {
 }
 
 impl LatinCaseState {
-    fn after(self, class: u8) -> LatinCaseState
+    fn after_class(self, class: u8) -> LatinCaseState
         ensures { λ r. ⌜ r ≡ caseOf self class ⌝ }
     {
         if class % 128 != single::LATIN_LETTER {
@@ -87,7 +87,7 @@ impl ArabicFrench {
     pub const CLASSES: u8 = 128;
 
     pub fn fresh() -> ArabicFrench
-        ensures { λ r. ⌜ r ≡ freshOf ⌝ }
+        ensures { λ r. ⌜ r ≡ fresh ⌝ }
     {
         ArabicFrench {
             prev: 0,
@@ -102,7 +102,7 @@ impl ArabicFrench {
         requires { ⌜ Sized (lent (now classes) (now marks) (now pairs) (now weights)) ⌝ }
         requires { ⌜ Sound (2 * room) self ⌝ }
         ensures { λ r. ⌜ answerOf r ≡ ran (stepOf (lent (now (classes .entry)) (now (marks .entry)) (now (pairs .entry)) (now (weights .entry))) self b) ⌝ }
-        ensures { λ r. ⌜ Small perByte r ⌝ }
+        ensures { λ r. ⌜ Bounded perByte r ⌝ }
     {
         let class = classes[b as usize];
         if class == single::NO_CLASS {
@@ -118,7 +118,7 @@ impl ArabicFrench {
         Ran::Live(
             ArabicFrench {
                 prev: caseless_class,
-                case_state: case_state.after(class),
+                case_state: case_state.after_class(class),
                 prev_ascii: octets::is_ascii(b),
                 current_word_len: words.current,
                 longest_word: words.longest,
@@ -127,10 +127,17 @@ impl ArabicFrench {
         )
     }
 
-    fn feed(self, part: &[u8], classes: &[u8], marks: &[u8], pairs: &[i16], weights: &[i32]) -> Ran
+    fn run_fit(
+        self,
+        part: &[u8],
+        classes: &[u8],
+        marks: &[u8],
+        pairs: &[i16],
+        weights: &[i32],
+    ) -> Ran
         requires { ⌜ Fit (lent (now classes) (now marks) (now pairs) (now weights)) (Sound room self) (length (now part)) ⌝ }
         ensures { λ r. ⌜ r ≡ ranAs (run (stepOf (lent (now (classes .entry)) (now (marks .entry)) (now (pairs .entry)) (now (weights .entry)))) (alive self) (now (part .entry))) ⌝ }
-        ensures { λ r. ⌜ Small (perByte * length (now (part .entry))) r ⌝ }
+        ensures { λ r. ⌜ Bounded (perByte * length (now (part .entry))) r ⌝ }
     {
         let mut m = self;
         let mut score: i64 = 0;
@@ -170,7 +177,7 @@ impl ArabicFrench {
         weights: &[i32],
     ) -> Ran
         ensures { λ r. ⌜ r ≡ ranOf (lent (now (classes .entry)) (now (marks .entry)) (now (pairs .entry)) (now (weights .entry))) self (now (part .entry)) ⌝ }
-        ensures { λ r. ⌜ Small (perByte * length (now (part .entry))) r ⌝ }
+        ensures { λ r. ⌜ Bounded (perByte * length (now (part .entry))) r ⌝ }
     {
         if single::is_fit(
             self.is_sound_for(lengths::ROOM),
@@ -183,7 +190,7 @@ impl ArabicFrench {
             // The test has shown both: said again so that no read in the loop is tested.
             let mut m = self;
             m.prev = self.prev % Self::CLASSES;
-            return m.feed(
+            return m.run_fit(
                 part,
                 classes,
                 &marks[0..lengths::MARKS],
@@ -197,7 +204,7 @@ impl ArabicFrench {
     // The end of the stream: it counts as a space.
     pub fn close(self, classes: &[u8], marks: &[u8], pairs: &[i16], weights: &[i32]) -> Ran
         ensures { λ r. ⌜ r ≡ closedOf (lent (now (classes .entry)) (now (marks .entry)) (now (pairs .entry)) (now (weights .entry))) self ⌝ }
-        ensures { λ r. ⌜ Small perByte r ⌝ }
+        ensures { λ r. ⌜ Bounded perByte r ⌝ }
     {
         self.run(b" ", classes, marks, pairs, weights)
     }

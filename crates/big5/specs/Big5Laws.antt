@@ -22,7 +22,7 @@ use Rattle.laws.specs.Limit.{limit}
 use Rattle.weights.specs.Weights.{term, perByte}
 use Rattle.lengths.specs.Lengths.{weightCount, big5Count}
 use Rattle.big5_decoder.specs.Standard.{layout, pointsOf, decodeOf}
-use Rattle.big5.specs.Scoring.{scaleOf, isHanzi, isDistinct, besideOf, besideHanzi, scored, holdsOf, hanziWeight, letterOf, hanziOf, otherOf, unitOf, pointOf, unmappedOf, extensionOf, isPair, extends, after, strayOf, errorOf, onEvent, Lent, lent, stepOf}
+use Rattle.big5.specs.Scoring.{scaleOf, isHanzi, isDistinct, besideOf, besideHanzi, scored, holdsOf, hanziWeight, letterOf, hanziOf, otherOf, unitOf, pointOf, unmappedOf, extensionOf, isPair, extends, afterByte, strayOf, errorOf, onEvent, Lent, lent, stepOf}
 use Rattle.big5.specs.Big5.{Sound, soundB, SmallScale, ranAs, readyB, Ready, ranOf, closeOf, closedOf}
 use Rattle.big5.specs.Ways.{beside-small, hanzi-small}
 use Rattle.big5.specs.declared.Big5.{Big5}
@@ -74,7 +74,7 @@ pub record Fair (s : Scored) : Type 0 where
 plain-fair : (k : LatinCj) (g : ℤ) → natAbs g ≤ perByte → Fair (scored k Nothing g)
 plain-fair k g h = record { held-small = omega arith; gain-small = h }
 
-after-within : (n lead b : ℕ) (s : Scored) → isLeadOrNone lead ≡ true → Fair s → Within (Sound n) perByte (after lead b s)
+after-within : (n lead b : ℕ) (s : Scored) → isLeadOrNone lead ≡ true → Fair s → Within (Sound n) perByte (afterByte lead b s)
 after-within n lead b s e f = (record { lead-fits = e; held-small = f .held-small }, f .gain-small)
 
 module _ (w : Scale) (small : SmallScale w) (m : Big5) (held : SmallHeld (m .held)) where

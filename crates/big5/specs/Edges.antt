@@ -8,9 +8,9 @@ use lib.IntN.{pos, _+ℤ_, +ℤ-idl, +ℤ-idr}
 use lib.ListN.{getD}
 use borrow.Author.Tests.{ne-eqb, lt-ltb, le-ltb}
 use Rattle.laws.specs.Lists.{any, isIn}
-use Rattle.laws.specs.Run.{live, plus, feed, run, dropped}
+use Rattle.laws.specs.Run.{live, plus, withByte, run, dropped}
 use Rattle.octets.specs.Octets.{between}
-use Rattle.laws.specs.Handler.{after as lead-after}
+use Rattle.laws.specs.Handler.{varsOf}
 use Rattle.pairs.specs.Pairs.{isLead, decoded}
 use Rattle.pairs.specs.Standard.{first, returned, indexed}
 use Rattle.pairs.specs.Events.{pointsAs, eventOf}
@@ -23,7 +23,7 @@ use Rattle.big5_decoder.specs.Standard.{isTrail, layout, isMapped, pointerOf, p
 use Rattle.big5_decoder.specs.SpecialsLaws.{specials}
 use Rattle.big5_decoder.specs.StandardLaws.{mapped-pair}
 use Rattle.big5.specs.Ways.{step-on}
-use Rattle.big5.specs.Scoring.{isDistinct, otherOf, unitOf, pointOf, after, unmappedOf, extensionOf, strayOf, errorOf, freshOf, Lent, stepOf}
+use Rattle.big5.specs.Scoring.{isDistinct, otherOf, unitOf, pointOf, afterByte, unmappedOf, extensionOf, strayOf, errorOf, fresh, Lent, stepOf}
 use Rattle.big5.specs.declared.Big5.{Big5}
 use Rattle.big5.specs.declared.LatinCj.{LatinCj}
 use Rattle.big5.specs.declared.LatinCj.the-variants.{Cj, Other}
@@ -35,39 +35,39 @@ rest prev byte = record { lead = 0; prev = prev; «prev_byte» = byte; held = No
 
 module _ (t : Lent) where
   -- FD FF: the extension weight twice, then Other
-  pub fd-ff : run (stepOf t) (live freshOf (pos 0)) (0xFD ∷ 0xFF ∷ []) ≡ live (rest Other 0xFF) (t .scale .extension +ℤ t .scale .extension)
-  unfolding run feed plus stepOf decodeOf first returned lead-after eventOf pointsAs errorOf strayOf extensionOf any
+  pub fd-ff : run (stepOf t) (live fresh (pos 0)) (0xFD ∷ 0xFF ∷ []) ≡ live (rest Other 0xFF) (t .scale .extension +ℤ t .scale .extension)
+  unfolding run withByte plus stepOf decodeOf first returned varsOf eventOf pointsAs errorOf strayOf extensionOf any
   fd-ff = ap (live (rest Other 0xFF)) (+ℤ-idl (t .scale .extension +ℤ t .scale .extension))
 
   -- FD 61, unmapped: the private-use weight once
-  pub fd-61 : isMapped (getD (t .index) (pointerOf 0xFD 0x61) 0) ≡ false → run (stepOf t) (live freshOf (pos 0)) (0xFD ∷ 0x61 ∷ []) ≡ live (rest Cj 0x61) (t .scale .pua)
-  unfolding run feed plus stepOf decodeOf first pointsOf indexed returned lead-after eventOf pointsAs errorOf unmappedOf any
+  pub fd-61 : isMapped (getD (t .index) (pointerOf 0xFD 0x61) 0) ≡ false → run (stepOf t) (live fresh (pos 0)) (0xFD ∷ 0x61 ∷ []) ≡ live (rest Cj 0x61) (t .scale .pua)
+  unfolding run withByte plus stepOf decodeOf first pointsOf indexed returned varsOf eventOf pointsAs errorOf unmappedOf any
   fd-61 e = rw e (ap (live (rest Cj 0x61)) (+ℤ-idl (pos 0 +ℤ t .scale .pua +ℤ pos 0) ∙ (+ℤ-idr (pos 0 +ℤ t .scale .pua) ∙ +ℤ-idl (t .scale .pua))))
 
   -- A4 FF: none
-  pub a4-ff : run (stepOf t) (live freshOf (pos 0)) (0xA4 ∷ 0xFF ∷ []) ≡ dropped
-  unfolding run feed plus stepOf decodeOf first returned lead-after eventOf pointsAs errorOf strayOf any
+  pub a4-ff : run (stepOf t) (live fresh (pos 0)) (0xA4 ∷ 0xFF ∷ []) ≡ dropped
+  unfolding run withByte plus stepOf decodeOf first returned varsOf eventOf pointsAs errorOf strayOf any
   a4-ff = refl
 
   -- 80 alone: none
-  pub lone-80 : run (stepOf t) (live freshOf (pos 0)) (0x80 ∷ []) ≡ dropped
-  unfolding run feed plus stepOf decodeOf first lead-after eventOf errorOf strayOf any
+  pub lone-80 : run (stepOf t) (live fresh (pos 0)) (0x80 ∷ []) ≡ dropped
+  unfolding run withByte plus stepOf decodeOf first varsOf eventOf errorOf strayOf any
   lone-80 = refl
 
   -- ---- states that no stream leads to, and what the rules' widths take in
   -- a lead A4 after a byte 00, then an unmapped A1: none, for the rule looks at the byte before
   pub a4-after-00 : (prev : LatinCj) (held : Held) → isMapped (getD (t .index) (pointerOf 0xA4 0xA1) 0) ≡ false → stepOf t (record { lead = 0xA4; prev = prev; «prev_byte» = 0x00; held = held }) 0xA1 ≡ dropped
-  unfolding stepOf decodeOf pointsOf indexed returned lead-after eventOf pointsAs errorOf strayOf any
+  unfolding stepOf decodeOf pointsOf indexed returned varsOf eventOf pointsAs errorOf strayOf any
   a4-after-00 prev held e = rw e
 
   -- a pair that ends in FD, then FF alone: the extension weight twice, and what was held is dropped
   pub after-fd-ff : (prev : LatinCj) (held : Held) → stepOf t (record { lead = 0; prev = prev; «prev_byte» = 0xFD; held = held }) 0xFF ≡ live (rest Other 0xFF) (t .scale .extension +ℤ t .scale .extension)
-  unfolding stepOf decodeOf first lead-after eventOf errorOf strayOf extensionOf any
+  unfolding stepOf decodeOf first varsOf eventOf errorOf strayOf extensionOf any
   after-fd-ff prev held = refl
 
   -- the four specials come before the index, whatever it holds there: 88 62 is CA and 304, and scores as other
-  pub special-88-62 : run (stepOf t) (live freshOf (pos 0)) (0x88 ∷ 0x62 ∷ []) ≡ live (rest Other 0x62) (t .scale .other)
-  unfolding run feed plus stepOf decodeOf first pointsOf returned lead-after eventOf pointsAs otherOf
+  pub special-88-62 : run (stepOf t) (live fresh (pos 0)) (0x88 ∷ 0x62 ∷ []) ≡ live (rest Other 0x62) (t .scale .other)
+  unfolding run withByte plus stepOf decodeOf first pointsOf returned varsOf eventOf pointsAs otherOf
   special-88-62 = ap (live (rest Other 0x62)) (+ℤ-idl (pos 0 +ℤ t .scale .other) ∙ +ℤ-idl (t .scale .other))
 
 -- ---- mapped private use
@@ -89,7 +89,7 @@ unfolding decodeOf pairOf
 mapped-decoded t lead b l r s e = sym (pair-seen layout (pointsOf (t .index)) lead b l ∙ ap (decoded 0) (mapped-pair (t .index) lead b r s e))
 
 -- a pair that the index maps to private use scores as other; the private-use weight is for unmapped pairs
-pub private-use : (t : Lent) (m : Big5) (b : ℕ) → isLead (m .lead) ≡ true → isTrail b ≡ true → isIn specials (pointerOf (m .lead) b) ≡ false → between 0xE000 0xF8FF (getD (t .index) (pointerOf (m .lead) b) 0) ≡ true → stepOf t m b ≡ after 0 b (otherOf m (t .scale .other))
+pub private-use : (t : Lent) (m : Big5) (b : ℕ) → isLead (m .lead) ≡ true → isTrail b ≡ true → isIn specials (pointerOf (m .lead) b) ≡ false → between 0xE000 0xF8FF (getD (t .index) (pointerOf (m .lead) b) 0) ≡ true → stepOf t m b ≡ afterByte 0 b (otherOf m (t .scale .other))
 private-use t m b l r s e =
     let u = getD (t .index) (pointerOf (m .lead) b) 0 in
-    sym (step-on t m b (decoded 0 (Point u)) (mapped-decoded t (m .lead) b l r s (private-mapped u e)) (Point u) refl) ∙ ap (after 0 b) (point-private (t .scale) m u e)
+    sym (step-on t m b (decoded 0 (Point u)) (mapped-decoded t (m .lead) b l r s (private-mapped u e)) (Point u) refl) ∙ ap (afterByte 0 b) (point-private (t .scale) m u e)

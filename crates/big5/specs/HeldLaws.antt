@@ -16,7 +16,7 @@ use Rattle.pairs.specs.declared.Event.{Event}
 use Rattle.pairs.specs.declared.Event.the-variants.{Pending, Point, Two, Error}
 use Rattle.pairs.specs.declared.Held.the-variants.{Nothing, Score}
 use Rattle.big5_decoder.specs.Standard.{decodeOf}
-use Rattle.big5.specs.Scoring.{isHanzi, isDistinct, isCj, besideOf, scored, holdsOf, hanziWeight, letterOf, hanziOf, otherOf, unitOf, pointOf, unmappedOf, extensionOf, isPair, extends, after, strayOf, errorOf, onEvent, Lent, stepOf}
+use Rattle.big5.specs.Scoring.{isHanzi, isDistinct, isCj, besideOf, scored, holdsOf, hanziWeight, letterOf, hanziOf, otherOf, unitOf, pointOf, unmappedOf, extensionOf, isPair, extends, afterByte, strayOf, errorOf, onEvent, Lent, stepOf}
 use Rattle.big5.specs.Big5.{closeOf}
 use Rattle.big5.specs.declared.Big5.{Big5}
 use Rattle.big5.specs.declared.LatinCj.{LatinCj}
@@ -80,7 +80,7 @@ module _ (w : Scale) (m : Big5) where
   WhyOut v (none d) = Unit {0}
   WhyOut v (live n g) = (k : ℤ) → n .held ≡ Score k → ((v ≡ Pending) × (m .held ≡ Score k)) ⊎ Why w m k
 
-  why-after : (v : Event) (lead b : ℕ) (s : Scored) → Whys s → WhyOut v (after lead b s)
+  why-after : (v : Event) (lead b : ℕ) (s : Scored) → Whys s → WhyOut v (afterByte lead b s)
   unfolding Whys WhyOut
   why-after v lead b s h k e = inr (h k e)
 

@@ -120,24 +120,24 @@ abbrev pub extends : ℕ → ℕ → Bool
 extends before b = isExtension before && (ascii b || eqb b 0xFF)
 
 -- the record after byte b
-abbrev pub after : ℕ → ℕ → Scored → Outcome Big5
-after lead b s = live (record { lead = lead; prev = s .prev; «prev_byte» = b; held = s .held }) (s .gain)
+abbrev pub afterByte : ℕ → ℕ → Scored → Outcome Big5
+afterByte lead b s = live (record { lead = lead; prev = s .prev; «prev_byte» = b; held = s .held }) (s .gain)
 
 module _ (w : Scale) (m : Big5) where
   -- an error that is no pair in range: with the byte before an extension, or the extension FF alone, or the machine drops out
   unfoldable pub strayOf : ℕ → ℕ → ℕ → Outcome Big5
   strayOf lead b length =
-      cond (extends (m .«prev_byte») b) (after lead b (extensionOf w b))
-      (cond (eqb length 1 && eqb b 0xFF) (after lead b (scored Other Nothing (w .extension))) dropped)
+      cond (extends (m .«prev_byte») b) (afterByte lead b (extensionOf w b))
+      (cond (eqb length 1 && eqb b 0xFF) (afterByte lead b (scored Other Nothing (w .extension))) dropped)
 
   unfoldable pub errorOf : ℕ → ℕ → ℕ → Outcome Big5
-  errorOf lead b length = cond (isPair (m .«prev_byte») b) (after lead b (unmappedOf w m)) (strayOf lead b length)
+  errorOf lead b length = cond (isPair (m .«prev_byte») b) (afterByte lead b (unmappedOf w m)) (strayOf lead b length)
 
   -- an event at byte b, with the decoder's lead after it
   abbrev pub onEvent : ℕ → ℕ → Event → Outcome Big5
-  onEvent lead b Pending = after lead b (scored (m .prev) (m .held) (pos 0))
-  onEvent lead b (Point point) = after lead b (pointOf w m point)
-  onEvent lead b (Two p q) = after lead b (otherOf m (w .other))
+  onEvent lead b Pending = afterByte lead b (scored (m .prev) (m .held) (pos 0))
+  onEvent lead b (Point point) = afterByte lead b (pointOf w m point)
+  onEvent lead b (Two p q) = afterByte lead b (otherOf m (w .other))
   onEvent lead b (Error length) = errorOf lead b length
 
 -- ---- the machine
@@ -148,8 +148,8 @@ pub record Lent : Type 0 where
 abbrev pub lent : List ℕ → Scale → Lent
 lent index scale = record { index = index; scale = scale }
 
-abbrev pub freshOf : Big5
-freshOf = record { lead = 0; prev = Other; «prev_byte» = 0; held = Nothing }
+abbrev pub fresh : Big5
+fresh = record { lead = 0; prev = Other; «prev_byte» = 0; held = Nothing }
 
 unfoldable pub stepOf : Lent → Big5 → ℕ → Outcome Big5
 stepOf t m b = onEvent (t .scale) m (decodeOf (t .index) (m .lead) b .lead) b (decodeOf (t .index) (m .lead) b .event)

@@ -19,7 +19,7 @@ use Rattle.pairs.specs.declared.Event.{Event}
 use Rattle.pairs.specs.declared.Held.the-variants.{Nothing}
 use Rattle.weights.specs.Weights.{term}
 use Rattle.big5_decoder.specs.Standard.{decodeOf}
-use Rattle.big5.specs.Scoring.{besideOf, hanziWeight, scored, extensionOf, isExtension, extends, after, strayOf, onEvent, Lent, stepOf}
+use Rattle.big5.specs.Scoring.{besideOf, hanziWeight, scored, extensionOf, isExtension, extends, afterByte, strayOf, onEvent, Lent, stepOf}
 use Rattle.big5.specs.Big5.{SmallScale}
 use Rattle.big5.specs.declared.Big5.{Big5}
 use Rattle.big5.specs.declared.LatinCj.{LatinCj}
@@ -75,11 +75,11 @@ and-no true = refl
 and-no false = refl
 
 module _ (w : Scale) (m : Big5) (lead b length : ℕ) where
-  pub stray-extends : extends (m .«prev_byte») b ≡ true → after lead b (extensionOf w b) ≡ strayOf w m lead b length
+  pub stray-extends : extends (m .«prev_byte») b ≡ true → afterByte lead b (extensionOf w b) ≡ strayOf w m lead b length
   unfolding strayOf
   stray-extends e = rw e
 
-  pub stray-alone : extends (m .«prev_byte») b ≡ false → length ≡ 1 → b ≡ 0xFF → after lead b (scored Other Nothing (w .extension)) ≡ strayOf w m lead b length
+  pub stray-alone : extends (m .«prev_byte») b ≡ false → length ≡ 1 → b ≡ 0xFF → afterByte lead b (scored Other Nothing (w .extension)) ≡ strayOf w m lead b length
   unfolding strayOf
   stray-alone e p q = rw (e, eq-eqb length 1 p, eq-eqb b 0xFF q)
 

@@ -9,8 +9,8 @@ ghost use Rattle.pairs.specs.Pairs.{SmallHeld};
 ghost use Rattle.laws.specs.Limit.{limit};
 ghost use Rattle.weights.specs.Weights.{term, perByte};
 ghost use Rattle.lengths.specs.Lengths.{big5Count};
-ghost use Rattle.big5.specs.Scoring.{scaleOf, isHanzi, isDistinct, besideOf, holdsOf, hanziWeight, letterOf, hanziOf, otherOf, unitOf, pointOf, unmappedOf, extensionOf, isPair, isExtension, after as afterOf, strayOf, errorOf, lent, freshOf, stepOf, scored};
-ghost use Rattle.big5.specs.Big5.{Sound, soundB, SmallScale, outOf, ranAs, Small, Weighed, readyB, ranOf, closedOf};
+ghost use Rattle.big5.specs.Scoring.{scaleOf, isHanzi, isDistinct, besideOf, holdsOf, hanziWeight, letterOf, hanziOf, otherOf, unitOf, pointOf, unmappedOf, extensionOf, isPair, isExtension, afterByte, strayOf, errorOf, lent, fresh, stepOf, scored};
+ghost use Rattle.big5.specs.Big5.{Sound, soundB, SmallScale, outOf, ranAs, Bounded, Weighed, readyB, ranOf, closedOf};
 use pairs::Event;
 use pairs::Held;
 
@@ -130,7 +130,7 @@ impl Big5 {
     pub const INDEX: usize = lengths::BIG5;
 
     pub fn fresh() -> Big5
-        ensures { λ r. ⌜ r ≡ freshOf ⌝ }
+        ensures { λ r. ⌜ r ≡ fresh ⌝ }
     {
         Big5 {
             lead: 0,
@@ -307,8 +307,8 @@ fn extension(b: u8, w: Scale) -> Scored
 }
 
 // The record after a byte.
-fn after(lead: u8, b: u8, s: Scored) -> Stepped
-    ensures { λ r. ⌜ outOf r ≡ afterOf lead b s ⌝ }
+fn after_byte(lead: u8, b: u8, s: Scored) -> Stepped
+    ensures { λ r. ⌜ outOf r ≡ afterByte lead b s ⌝ }
 {
     let prev = s.prev;
     let held = s.held;
@@ -331,15 +331,15 @@ impl Big5 {
     {
         if is_extension(self.prev_byte) {
             if b < 0x80 {
-                return after(lead, b, extension(b, w));
+                return after_byte(lead, b, extension(b, w));
             }
             if b == 0xFF {
-                return after(lead, b, extension(b, w));
+                return after_byte(lead, b, extension(b, w));
             }
         }
         if size == 1 {
             if b == 0xFF {
-                return after(
+                return after_byte(
                     lead,
                     b,
                     Scored {
@@ -359,7 +359,7 @@ impl Big5 {
         ensures { λ r. ⌜ outOf r ≡ errorOf w self lead b size ⌝ }
     {
         if is_pair(self.prev_byte, b) {
-            return after(lead, b, self.unmapped(w));
+            return after_byte(lead, b, self.unmapped(w));
         }
         self.stray(lead, b, size, w)
     }
@@ -374,15 +374,15 @@ impl Big5 {
         let event = d.event;
         match event {
             Event::Pending => self.pending(d.lead, b),
-            Event::Point(point) => after(d.lead, b, self.point(point, w)),
-            Event::Two(_, _) => after(d.lead, b, self.other(w.other)),
+            Event::Point(point) => after_byte(d.lead, b, self.point(point, w)),
+            Event::Two(_, _) => after_byte(d.lead, b, self.other(w.other)),
             Event::Error(size) => self.error(d.lead, b, size, w),
         }
     }
 
     // A lead changes nothing else.
     fn pending(self, lead: u8, b: u8) -> Stepped
-        ensures { λ r. ⌜ outOf r ≡ afterOf lead b (scored (self .prev) (self .held) (pos 0)) ⌝ }
+        ensures { λ r. ⌜ outOf r ≡ afterByte lead b (scored (self .prev) (self .held) (pos 0)) ⌝ }
     {
         let prev = self.prev;
         let held = self.held;
@@ -397,13 +397,13 @@ impl Big5 {
         )
     }
 
-    fn feed(self, part: &[u8], index: &[u32], w: Scale) -> Ran
+    fn run_fit(self, part: &[u8], index: &[u32], w: Scale) -> Ran
         requires { ⌜ SmallScale w ⌝ }
         requires { ⌜ Sound limit self ⌝ }
         requires { ⌜ length (now part) ≤ limit ⌝ }
         requires { ⌜ length (now index) ≡ big5Count ⌝ }
         ensures { λ r. ⌜ r ≡ ranAs (run (stepOf (lent (now (index .entry)) w)) (alive self) (now (part .entry))) ⌝ }
-        ensures { λ r. ⌜ Small (perByte * length (now (part .entry))) r ⌝ }
+        ensures { λ r. ⌜ Bounded (perByte * length (now (part .entry))) r ⌝ }
     {
         let mut m = self;
         let mut s: i64 = 0;
@@ -433,11 +433,11 @@ impl Big5 {
 
     pub fn run(self, part: &[u8], index: &[u32], weights: &[i32]) -> Ran
         ensures { λ r. ⌜ r ≡ ranOf (now (index .entry)) (now (weights .entry)) self (now (part .entry)) ⌝ }
-        ensures { λ r. ⌜ Small (perByte * length (now (part .entry))) r ⌝ }
+        ensures { λ r. ⌜ Bounded (perByte * length (now (part .entry))) r ⌝ }
         ensures { λ r. ⌜ Weighed (now (weights .entry)) r ⌝ }
     {
         if is_ready(self, part, index, weights) {
-            return self.feed(part, index, Scale::read(weights));
+            return self.run_fit(part, index, Scale::read(weights));
         }
         Ran::Unfit
     }

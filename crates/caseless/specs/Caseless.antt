@@ -2,7 +2,7 @@
 use mathlib.Core.Bool.{Bool, true}
 use mathlib.Core.List.{List}
 use Prim.Native.Nat.{ℕ}
-use Rattle.laws.specs.Answer.{Answer, ran, unfit, answered, SmallBy}
+use Rattle.laws.specs.Answer.{Answer, ran, unfit, answered, BoundedBy}
 use Rattle.laws.specs.Run.{Outcome, live, dropped}
 use Rattle.octets.specs.Octets.{ascii}
 use Rattle.single.specs.Class.{caselessOf, alphabetic, unless255}
@@ -16,8 +16,8 @@ use Rattle.caseless.specs.declared.Caseless.{Caseless}
 use Rattle.caseless.specs.declared.Ran.{Ran}
 use Rattle.caseless.specs.declared.Ran.the-variants.{Live, Dropped, Unfit}
 
-abbrev pub freshOf : Caseless
-freshOf = record { prev = 0; «prev_ascii» = true; «current_word_len» = 0; «longest_word» = 0 }
+abbrev pub fresh : Caseless
+fresh = record { prev = 0; «prev_ascii» = true; «current_word_len» = 0; «longest_word» = 0 }
 
 module _ (t : Lent) where
   abbrev pub nextOf : Caseless → ℕ → Caseless
@@ -58,5 +58,5 @@ unfoldable pub closedOf : Lent → Caseless → Ran
 closedOf t m = closedBy stepOf (soundB room) Live Dropped Unfit t m
 
 -- a live answer's score changes by at most c
-abbrev pub Small : ℕ → Ran → Type 0
-Small c r = SmallBy c (answerOf r)
+abbrev pub Bounded : ℕ → Ran → Type 0
+Bounded c r = BoundedBy c (answerOf r)

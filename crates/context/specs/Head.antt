@@ -20,13 +20,13 @@ headOf [] = []
 headOf (b ∷ bs) = cond (isTrigger b) [] (b ∷ headOf bs)
 
 -- what a chunk's first byte after the n bytes of its head says
-abbrev pub triggerOf : ℕ → List ℕ → Scanned
-triggerOf n [] = End
-triggerOf n (b ∷ bs) = cond (eqb b escape) (Escape n) (NonAscii n)
+abbrev pub scannedAt : ℕ → List ℕ → Scanned
+scannedAt n [] = End
+scannedAt n (b ∷ bs) = cond (eqb b escape) (Escape n) (NonAscii n)
 
 -- the trigger and its offset, or the end of the chunk
 unfoldable pub scanOf : List ℕ → Scanned
-scanOf xs = triggerOf (length (headOf xs)) (drop (length (headOf xs)) xs)
+scanOf xs = scannedAt (length (headOf xs)) (drop (length (headOf xs)) xs)
 
 -- how many bytes are at or above 0x80
 abbrev pub nonAsciiCount : List ℕ → ℕ

@@ -14,11 +14,11 @@ use Rattle.laws.specs.Lists.{any}
 use Rattle.octets.specs.Octets.{nonAscii}
 use Rattle.context.specs.declared.Scanned.{Scanned}
 use Rattle.context.specs.declared.Scanned.the-variants.{Escape, NonAscii, End}
-use Rattle.context.specs.Head.{escape, isTrigger, headOf, triggerOf, scanOf}
+use Rattle.context.specs.Head.{escape, isTrigger, headOf, scannedAt, scanOf}
 
 -- ---- the scan of what is left of a chunk, from offset n on
 unfoldable pub scanFrom : ℕ → List ℕ → Scanned
-scanFrom n xs = triggerOf (n + length (headOf xs)) (drop (length (headOf xs)) xs)
+scanFrom n xs = scannedAt (n + length (headOf xs)) (drop (length (headOf xs)) xs)
 
 pub scan-start : (xs : List ℕ) → scanFrom 0 xs ≡ scanOf xs
 unfolding scanFrom scanOf
@@ -28,9 +28,9 @@ scan-trigger : (n b : ℕ) (bs : List ℕ) → isTrigger b ≡ true → scanFrom
 unfolding scanFrom headOf
 scan-trigger n b bs e = rw (e, add-zero)
 
-scan-quiet : (n b : ℕ) (bs : List ℕ) → isTrigger b ≡ false → scanFrom n (b ∷ bs) ≡ scanFrom (n + 1) bs
+scan-triggerless : (n b : ℕ) (bs : List ℕ) → isTrigger b ≡ false → scanFrom n (b ∷ bs) ≡ scanFrom (n + 1) bs
 unfolding scanFrom headOf
-scan-quiet n b bs e = let q : n + suc (length (headOf bs)) ≡ n + 1 + length (headOf bs) = omega arith in rw (e, q)
+scan-triggerless n b bs e = let q : n + suc (length (headOf bs)) ≡ n + 1 + length (headOf bs) = omega arith in rw (e, q)
 
 -- ---- for a loop: at its end, and one turn at i
 pub scan-done : (n : ℕ) (xs : List ℕ) → length xs ≤ 0 → End ≡ scanFrom n xs
@@ -49,21 +49,21 @@ module _ (xs : List ℕ) (i : ℕ) (h : i < length xs) where
       let q : eqb (getD xs i 0) escape ≡ false = ne-eqb _ _ e in
       sym (ap (scanFrom i) (drop-cons xs i 0 h) ∙ scan-trigger i (getD xs i 0) (drop (suc i) xs) (rw (q, f)) ∙ rw q)
 
-  pub turn-quiet : (getD xs i 0 ≡ escape → ⊥) → nonAscii (getD xs i 0) ≡ false → scanFrom (i + 1) (drop (i + 1) xs) ≡ scanFrom i (drop i xs)
-  turn-quiet e f =
+  pub turn-triggerless : (getD xs i 0 ≡ escape → ⊥) → nonAscii (getD xs i 0) ≡ false → scanFrom (i + 1) (drop (i + 1) xs) ≡ scanFrom i (drop i xs)
+  turn-triggerless e f =
       let q : eqb (getD xs i 0) escape ≡ false = ne-eqb _ _ e in
-      sym (ap (scanFrom i) (drop-cons xs i 0 h) ∙ scan-quiet i (getD xs i 0) (drop (suc i) xs) (rw (q, f)) ∙ rw add-one)
+      sym (ap (scanFrom i) (drop-cons xs i 0 h) ∙ scan-triggerless i (getD xs i 0) (drop (suc i) xs) (rw (q, f)) ∙ rw add-one)
 
 -- ---- the head has no trigger, and what follows it begins with one or is empty
-head-quiet-at : (t : Bool) (b : ℕ) (l : List ℕ) → isTrigger b ≡ t → any isTrigger l ≡ false → any isTrigger (cond t [] (b ∷ l)) ≡ false
+head-triggerless-at : (t : Bool) (b : ℕ) (l : List ℕ) → isTrigger b ≡ t → any isTrigger l ≡ false → any isTrigger (cond t [] (b ∷ l)) ≡ false
 unfolding any
-head-quiet-at true b l e q = refl
-head-quiet-at false b l e q = rw (e, q)
+head-triggerless-at true b l e q = refl
+head-triggerless-at false b l e q = rw (e, q)
 
-pub head-quiet : (xs : List ℕ) → any isTrigger (headOf xs) ≡ false
+pub head-triggerless : (xs : List ℕ) → any isTrigger (headOf xs) ≡ false
 unfolding headOf any
-head-quiet [] = refl
-head-quiet (b ∷ bs) = head-quiet-at (isTrigger b) b (headOf bs) refl (head-quiet bs)
+head-triggerless [] = refl
+head-triggerless (b ∷ bs) = head-triggerless-at (isTrigger b) b (headOf bs) refl (head-triggerless bs)
 
 head-take-at : (t : Bool) (b : ℕ) (l bs : List ℕ) → take (length l) bs ≡ l → take (length (cond t [] (b ∷ l))) (b ∷ bs) ≡ cond t [] (b ∷ l)
 head-take-at true b l bs e = refl
@@ -99,7 +99,7 @@ First xs (Escape n) = FirstAt (λ (b : ℕ). b ≡ escape) xs n
 First xs (NonAscii n) = FirstAt (λ (b : ℕ). nonAscii b ≡ true) xs n
 First xs End = any isTrigger xs ≡ false
 
-module _ (xs : List ℕ) (n : ℕ) (quiet : any isTrigger (take n xs) ≡ false) where
+module _ (xs : List ℕ) (n : ℕ) (clear : any isTrigger (take n xs) ≡ false) where
   module _ (b : ℕ) (bs : List ℕ) (d : drop n xs ≡ b ∷ bs) where
     inside : n < length xs
     inside = let h : length xs - n ≡ suc (length bs) = sym (length-drop n xs) ∙ ap length d in omega arith
@@ -108,13 +108,13 @@ module _ (xs : List ℕ) (n : ℕ) (quiet : any isTrigger (take n xs) ≡ false)
     byte-is = ap (λ (k : ℕ). getD xs k 0) (sym (add-zero n)) ∙ (sym (getD-drop n xs 0 0) ∙ ap (λ (l : List ℕ). getD l 0 0) d)
 
     first-byte : (t : Bool) → eqb b escape ≡ t → isTrigger b ≡ true → First xs (cond t (Escape n) (NonAscii n))
-    first-byte true e q = record { within = inside; there = byte-is ∙ eqb-true b escape e; before = quiet }
-    first-byte false e q = record { within = inside; there = ap nonAscii byte-is ∙ (rw e at q); before = quiet }
+    first-byte true e q = record { within = inside; there = byte-is ∙ eqb-true b escape e; before = clear }
+    first-byte false e q = record { within = inside; there = ap nonAscii byte-is ∙ (rw e at q); before = clear }
 
-  first-at : (ys : List ℕ) → drop n xs ≡ ys → Starts ys → First xs (triggerOf n ys)
+  first-at : (ys : List ℕ) → drop n xs ≡ ys → Starts ys → First xs (scannedAt n ys)
   first-at [] d q =
       let whole : take n xs ≡ xs = sym (append-nil (take n xs)) ∙ (ap (λ (l : List ℕ). take n xs ++ l) (sym d) ∙ take-append-drop n xs) in
-      rw whole at quiet
+      rw whole at clear
   first-at (b ∷ bs) d q = first-byte b bs d (eqb b escape) refl q
 
 -- The scan gives the first byte that is the escape or non-ASCII, and nothing before it qualifies.
@@ -122,4 +122,4 @@ pub scan-first : (xs : List ℕ) → First xs (scanOf xs)
 unfolding scanOf
 scan-first xs =
     let n = length (headOf xs) in
-    first-at xs n (ap (any isTrigger) (head-take xs) ∙ head-quiet xs) (drop n xs) refl (head-stops xs)
+    first-at xs n (ap (any isTrigger) (head-take xs) ∙ head-triggerless xs) (drop n xs) refl (head-stops xs)

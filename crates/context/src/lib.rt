@@ -14,7 +14,7 @@ pub struct Context {
 }
 
 // A context's two places, whether they hold a byte or not.
-pub type Places = [u8; 2];
+pub type Slots = [u8; 2];
 
 impl Context {
     pub const MOST: usize = 2;
@@ -72,7 +72,7 @@ impl Context {
     }
 
     // Its two places. The bytes that it holds are the first `count` of them.
-    pub fn bytes(self) -> Places
+    pub fn bytes(self) -> Slots
         ensures { λ r. ⌜ r ≡ self .first ∷ self .second ∷ [] ⌝ }
     {
         [self.first, self.second]

@@ -27,11 +27,11 @@ abbrev pub DueBy : Context → Trigger → Due → Type 0
 DueBy c g d = (xs : List ℕ) → dueAs c xs d ≡ reachesBy c xs g
 
 -- where the trigger stands in the chunk
-abbrev pub offsetOf : Trigger → ℕ
-offsetOf Earlier = 0
-offsetOf (Escape n) = n
-offsetOf (NonAscii n) = n
-offsetOf Nowhere = 0
+abbrev pub triggerOffset : Trigger → ℕ
+triggerOffset Earlier = 0
+triggerOffset (Escape n) = n
+triggerOffset (NonAscii n) = n
+triggerOffset Nowhere = 0
 
 -- it stands in this chunk
 abbrev pub Here : Trigger → Type 0
@@ -48,7 +48,7 @@ WithinAt c at (After k) = k ≡ length (bytesOf c)
 
 abbrev pub WithinBy : Context → Trigger → Due → Type 0
 WithinBy c g Nothing = Unit {0}
-WithinBy c g (Part n) = n ≤ offsetOf g
+WithinBy c g (Part n) = n ≤ triggerOffset g
 WithinBy c g (After k) = (k ≡ length (bytesOf c)) × Here g
 
 -- counts that so many bytes more do not make wrap

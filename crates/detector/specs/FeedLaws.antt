@@ -17,15 +17,15 @@ use Rattle.tables.specs.TablesLaws.{sized-true}
 use Rattle.places.specs.Order.{SlateFor}
 use Rattle.places.specs.Slate.{feedAll, slatedOf}
 use Rattle.places.specs.Kept.{AllKept, KeptIf}
-use Rattle.places.specs.SlateLaws.{slated-fit, fed-kept, feed-all-nil, nil-kept, fed-slate, slate-still}
+use Rattle.places.specs.SlateLaws.{slated-fit, fed-kept, feed-all-nil, nil-kept, fed-slate, slate-unfed}
 use Rattle.places.specs.declared.place.Place.{Place}
 use Rattle.places.specs.declared.slate.Slated.{Slated}
 use Rattle.detector.specs.Feed.{verdictOf, refusalOf, placesBy, advanceOf, fed, accepted, feedBy, feedOf}
-use Rattle.detector.specs.Kept.{Fit, StaysIn}
+use Rattle.detector.specs.Kept.{Passed, StaysIn}
 use Rattle.state.specs.State.{flagOf, triggered}
 use Rattle.detector.specs.Front.{triggerOf, Reaches, none, some, reachesOf, bytesIn, counted, uncounted}
 use Rattle.detector.specs.Due.{dueAs, DueBy}
-use Rattle.detector.specs.FrontLaws.{plain-count}
+use Rattle.detector.specs.FrontLaws.{triggerless-count}
 use Rattle.state.specs.Order.{InOrder, stateB}
 use Rattle.state.specs.OrderLaws.{order-true}
 use Rattle.detector.specs.OrderLaws.{KeptBy, advance-in-order}
@@ -86,7 +86,7 @@ module _ (s : State) (n : ℕ) where
 
 -- ---- accepted: what the tests have shown
 module _ (t : Tables) (s : State) (xs : List ℕ) where
-  accept-at : (a b c d : Bool) → stateB s ≡ a → s .front .closed ≡ b → sizedB t ≡ c → ltb limit (s .front .bytes + length xs) ≡ d → cond a (cond b (Refuse (Closed (flagOf (s .front)))) (cond c (cond d (Refuse (TooLong (flagOf (s .front)))) Accept) (Refuse (WrongLength (flagOf (s .front)))))) (Refuse NotInOrder) ≡ Accept → Fit t s xs
+  accept-at : (a b c d : Bool) → stateB s ≡ a → s .front .closed ≡ b → sizedB t ≡ c → ltb limit (s .front .bytes + length xs) ≡ d → cond a (cond b (Refuse (Closed (flagOf (s .front)))) (cond c (cond d (Refuse (TooLong (flagOf (s .front)))) Accept) (Refuse (WrongLength (flagOf (s .front)))))) (Refuse NotInOrder) ≡ Accept → Passed t s xs
   accept-at false b c d p q r u e = no-accept e
   accept-at true true c d p q r u e = no-accept e
   accept-at true false false d p q r u e = no-accept e
@@ -95,9 +95,9 @@ module _ (t : Tables) (s : State) (xs : List ℕ) where
       let o = order-true s p in
       record { sized = sized-true t r; in-order = o; going = q; short = ltb-false limit (s .front .bytes + length xs) u }
 
-  pub accept-fit : Accept ≡ refusalOf t s xs → Fit t s xs
+  pub accept-passed : Accept ≡ refusalOf t s xs → Passed t s xs
   unfolding verdictOf
-  accept-fit e = accept-at (stateB s) (s .front .closed) (sizedB t) (ltb limit (s .front .bytes + length xs)) refl refl refl refl (sym e)
+  accept-passed e = accept-at (stateB s) (s .front .closed) (sizedB t) (ltb limit (s .front .bytes + length xs)) refl refl refl refl (sym e)
 
 -- ---- the whole
 module _ (t : Tables) (s : State) (xs : List ℕ) (last : Bool) where
@@ -110,7 +110,7 @@ module _ (t : Tables) (s : State) (xs : List ℕ) (last : Bool) where
   feed-accepted e = rw (sym e)
 
 -- ---- the advance
-module _ (t : Tables) (s : State) (xs : List ℕ) (last : Bool) (fit : Fit t s xs) where
+module _ (t : Tables) (s : State) (xs : List ℕ) (last : Bool) (passed : Passed t s xs) where
   -- what the code's answer d says
   module _ (d : Due) (due : DueBy (s .front .context) (triggerOf (s .front) xs) d) where
     abbrev Result : State → Type 0
@@ -122,7 +122,7 @@ module _ (t : Tables) (s : State) (xs : List ℕ) (last : Bool) (fit : Fit t s x
     advanced x e k =
         let q : x ≡ reachesOf (s .front) xs = sym e ∙ due xs in
         let r : record { front = counted (uncounted (s .front) xs last (triggerOf (s .front) xs)) (bytesIn x); places = placesBy t last (s .places) x } ≡ advanceOf t s xs last = rw q in
-        (r, subst InOrder (sym r) (advance-in-order t s xs last fit (rw q at k)))
+        (r, subst InOrder (sym r) (advance-in-order t s xs last passed (rw q at k)))
 
     -- nothing reaches the places
     counted-nil : (f : Front) → counted f [] ≡ f
@@ -138,15 +138,15 @@ module _ (t : Tables) (s : State) (xs : List ℕ) (last : Bool) (fit : Fit t s x
     -- the chunk from n on
     module _ (n : ℕ) (q : d ≡ Part n) (part : List ℕ) (from : part ≡ drop n xs) where
       slate-before : SlateFor (s .front .bytes) false (triggered (s .front)) (s .places)
-      slate-before = rw (fit .going) at (fit .in-order .slate)
+      slate-before = rw (passed .going) at (passed .in-order .slate)
 
       part-short : length part ≤ limit
-      part-short = rw (from, length-drop) (omega (arith, fit .short))
+      part-short = rw (from, length-drop) (omega (arith, passed .short))
 
       pub way-part : (next front : Front) (r : Slated) → next ≡ uncounted (s .front) xs last (triggerOf (s .front) xs) → front ≡ counted next part → r ≡ slatedOf t last part (s .places) → KeptIf (r .fit) t last part (s .places) → Result (record { front = front; places = r .places })
       unfolding dueAs placesBy
       way-part next front r a b e k =
-          let z = e ∙ slated-fit t part (s .places) last (triggered (s .front)) (s .front .bytes) (fit .sized) part-short slate-before in
+          let z = e ∙ slated-fit t part (s .places) last (triggered (s .front)) (s .front .bytes) (passed .sized) part-short slate-before in
           let nil = feed-all-nil t (s .places) in
           let kept : AllKept t last part (s .places) = fed-kept t last part (s .places) (feedAll t last part (s .places)) r z k in
           let places : feedAll t last part (feedAll t false [] (s .places)) ≡ r .places = ap (feedAll t last part) nil ∙ sym (ap (λ (x : Slated). x .places) z) in
@@ -158,24 +158,24 @@ module _ (t : Tables) (s : State) (xs : List ℕ) (last : Bool) (fit : Fit t s x
     -- the saved context, and then the whole chunk
     module _ (k : ℕ) (q : d ≡ After k) (lent : take k (s .front .context .first ∷ s .front .context .second ∷ []) ≡ bytesOf (s .front .context)) (new : triggered (s .front) ≡ false) (before : List ℕ) (saved : before ≡ take k (s .front .context .first ∷ s .front .context .second ∷ [])) where
       unfed : SlateFor 0 false false (s .places)
-      unfed = slate-still (s .front .bytes) 0 false (s .places) (omega arith) (rw (fit .going, new) at (fit .in-order .slate))
+      unfed = slate-unfed (s .front .bytes) 0 false (s .places) (omega arith) (rw (passed .going, new) at (passed .in-order .slate))
 
       before-short : length before ≤ 2
       before-short = rw (saved, lent) (bytes-most (s .front .context))
 
       -- the context is ASCII
       before-uncounted : (f : Front) → counted f (before ++ xs) ≡ counted f xs
-      before-uncounted f = rw (saved, lent, count-append, plain-count (bytesOf (s .front .context)) (fit .in-order .front .saved .plain), zero-add)
+      before-uncounted f = rw (saved, lent, count-append, triggerless-count (bytesOf (s .front .context)) (passed .in-order .front .saved .triggerless), zero-add)
 
       pub way-after : (next front : Front) (warm r : Slated) → next ≡ uncounted (s .front) xs last (triggerOf (s .front) xs) → front ≡ counted next xs → warm ≡ slatedOf t false before (s .places) → KeptIf (warm .fit) t false before (s .places) → r ≡ slatedOf t last xs (warm .places) → KeptIf (r .fit) t last xs (warm .places) → Result (record { front = front; places = r .places })
       unfolding dueAs placesBy
       way-after next front warm r a b e k f l =
-          let y = e ∙ slated-fit t before (s .places) false false 0 (fit .sized) (omega (arith, before-short)) unfed in
+          let y = e ∙ slated-fit t before (s .places) false false 0 (passed .sized) (omega (arith, before-short)) unfed in
           let hot = feedAll t false before (s .places) in
           let first : AllKept t false before (s .places) = fed-kept t false before (s .places) hot warm y k in
           let w : warm .places ≡ feedAll t false before (s .places) = ap (λ (x : Slated). x .places) y in
           let slate = fed-slate t false false before 0 (s .places) (omega (arith, before-short)) first unfed in
-          let z = rw w at f ∙ slated-fit t xs (feedAll t false before (s .places)) last true (0 + length before) (fit .sized) (omega (arith, fit .short)) slate in
+          let z = rw w at f ∙ slated-fit t xs (feedAll t false before (s .places)) last true (0 + length before) (passed .sized) (omega (arith, passed .short)) slate in
           let second : AllKept t last xs (feedAll t false before (s .places)) = fed-kept t last xs hot (feedAll t last xs hot) r z (rw w at l) in
           let places : feedAll t last xs (feedAll t false before (s .places)) ≡ r .places = sym (ap (λ (x : Slated). x .places) z) in
           let plain : counted (uncounted (s .front) xs last (triggerOf (s .front) xs)) (before ++ xs) ≡ front = before-uncounted (uncounted (s .front) xs last (triggerOf (s .front) xs)) ∙ (ap (λ (f : Front). counted f xs) (sym a) ∙ sym b) in

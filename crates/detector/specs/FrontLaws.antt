@@ -20,7 +20,7 @@ use Rattle.context.specs.declared.Scanned.{Scanned}
 use Rattle.context.specs.declared.Scanned.the-variants as scanned
 use Rattle.state.specs.State.{triggered}
 use Rattle.detector.specs.Front.{foundAs, triggerOf, Reaches, some, reachesAt, reachesBy, bytesIn, contextAt}
-use Rattle.detector.specs.Due.{dueAs, DueAt, DueBy, offsetOf, Here, WithinAt, WithinBy}
+use Rattle.detector.specs.Due.{dueAs, DueAt, DueBy, triggerOffset, Here, WithinAt, WithinBy}
 use Rattle.state.specs.Order.{Saved}
 use Rattle.detector.specs.declared.front.Due.{Due}
 use Rattle.detector.specs.declared.front.Due.the-variants.{Nothing, Part, After}
@@ -93,27 +93,27 @@ module _ (xs : List ℕ) where
   non-ascii-at n e = rw e at (scan-first xs)
 
 -- ---- the code's offset and number
-pub within-by : (c : Context) (g : Trigger) (d : Due) → Here g → WithinAt c (offsetOf g) d → WithinBy c g d
+pub within-by : (c : Context) (g : Trigger) (d : Due) → Here g → WithinAt c (triggerOffset g) d → WithinBy c g d
 within-by c g Nothing h w = tt
 within-by c g (Part n) h w = w
 within-by c g (After k) h w = (w, h)
 
-found-offset : (xs : List ℕ) (r : Scanned) → scanOf xs ≡ r → offsetOf (foundAs r) ≤ length xs
+found-offset : (xs : List ℕ) (r : Scanned) → scanOf xs ≡ r → triggerOffset (foundAs r) ≤ length xs
 found-offset xs (scanned.Escape n) e = omega (arith, escape-at xs n e)
 found-offset xs (scanned.NonAscii n) e = omega (arith, non-ascii-at xs n e .within)
 found-offset xs scanned.End e = omega arith
 
-offset-at : (xs : List ℕ) (t : Bool) → offsetOf (cond t Earlier (foundAs (scanOf xs))) ≤ length xs
+offset-at : (xs : List ℕ) (t : Bool) → triggerOffset (cond t Earlier (foundAs (scanOf xs))) ≤ length xs
 offset-at xs true = omega arith
 offset-at xs false = found-offset xs (scanOf xs) refl
 
 module _ (f : Front) (xs : List ℕ) (g : Trigger) (e : g ≡ triggerOf f xs) (d : Due) (w : WithinBy (f .context) g d) where
-  offset-most : offsetOf g ≤ length xs
+  offset-most : triggerOffset g ≤ length xs
   unfolding triggerOf
   offset-most = rw e (offset-at xs (triggered f))
 
   pub part-within : (n : ℕ) → d ≡ Part n → n ≤ length xs
-  part-within n q = let h : n ≤ offsetOf g = rw q at w in omega (arith, h, offset-most)
+  part-within n q = let h : n ≤ triggerOffset g = rw q at w in omega (arith, h, offset-most)
 
   -- what the code lends of the context is what it holds
   pub after-within : (k : ℕ) → d ≡ After k → (k ≤ 2) × (take k (f .context .first ∷ f .context .second ∷ []) ≡ bytesOf (f .context))
@@ -130,13 +130,13 @@ module _ (f : Front) (xs : List ℕ) (g : Trigger) (e : g ≡ triggerOf f xs) (d
   after-new k q = let h : (k ≡ length (bytesOf (f .context))) × Here g = rw q at w in here-new (triggered f) e (h .1)
 
 -- ---- plain bytes: neither 0x1B nor non-ASCII
-pub plain-count : (xs : List ℕ) → any isTrigger xs ≡ false → nonAsciiCount xs ≡ 0
+pub triggerless-count : (xs : List ℕ) → any isTrigger xs ≡ false → nonAsciiCount xs ≡ 0
 unfolding any count
-plain-count [] e = refl
-plain-count (x ∷ xs) e =
+triggerless-count [] e = refl
+triggerless-count (x ∷ xs) e =
     let h = neither (isTrigger x) (any isTrigger xs) e in
     let n = neither (eqb x escape) (nonAscii x) (h .0) .1 in
-    rw (n, plain-count xs (h .1))
+    rw (n, triggerless-count xs (h .1))
 
 -- ---- the saved context
 len-held : (c : Context) → c .len ≤ 2 → length (bytesOf c) ≡ c .len
@@ -161,25 +161,25 @@ push-len c (x ∷ xs) h =
     let s : length (bytesOf c ++ (x ∷ xs)) ≡ c .len + length (x ∷ xs) = length-append (bytesOf c) (x ∷ xs) ∙ ap (λ (n : ℕ). n + length (x ∷ xs)) (len-held c h) in
     (rw e (last-length 2 (bytesOf c ++ (x ∷ xs))), rw e (omega (arith, last-shorter (bytesOf c ++ (x ∷ xs)), s)))
 
-plain-last : (l : List ℕ) → any isTrigger l ≡ false → any isTrigger (last 2 l) ≡ false
+triggerless-last : (l : List ℕ) → any isTrigger l ≡ false → any isTrigger (last 2 l) ≡ false
 unfolding last
-plain-last l h = any-drop isTrigger (length l - 2) l h
+triggerless-last l h = any-drop isTrigger (length l - 2) l h
 
 pub push-saved : (c : Context) (xs : List ℕ) → Saved c → any isTrigger xs ≡ false → Saved (pushOf c xs)
 push-saved c xs s e =
-    let all : any isTrigger (bytesOf c ++ xs) ≡ false = any-append isTrigger (bytesOf c) xs ∙ rw (s .plain, e) in
-    record { two = push-len c xs (s .two) .0; plain = ap (any isTrigger) (push-bytes c xs) ∙ plain-last (bytesOf c ++ xs) all }
+    let all : any isTrigger (bytesOf c ++ xs) ≡ false = any-append isTrigger (bytesOf c) xs ∙ rw (s .triggerless, e) in
+    record { two = push-len c xs (s .two) .0; triggerless = ap (any isTrigger) (push-bytes c xs) ∙ triggerless-last (bytesOf c ++ xs) all }
 
 -- ---- counts
 module _ (c : Context) (s : Saved c) (xs : List ℕ) (n : ℕ) where
-  before-plain : (ys : List ℕ) → nonAsciiCount (bytesOf c ++ ys) ≡ nonAsciiCount ys
-  before-plain ys = count-append nonAscii (bytesOf c) ys ∙ rw (plain-count (bytesOf c) (s .plain)) (omega arith)
+  before-triggerless : (ys : List ℕ) → nonAsciiCount (bytesOf c ++ ys) ≡ nonAsciiCount ys
+  before-triggerless ys = count-append nonAscii (bytesOf c) ys ∙ rw (triggerless-count (bytesOf c) (s .triggerless)) (omega arith)
 
   pub at-most : nonAsciiCount (bytesIn (reachesAt c xs n)) ≤ length xs
   unfolding reachesAt
   at-most =
       either (λ (r : Reaches). nonAsciiCount (bytesIn r) ≤ length xs) (ltb n 2)
-      (λ e. rw (before-plain xs) (count-most nonAscii xs))
+      (λ e. rw (before-triggerless xs) (count-most nonAscii xs))
       (λ e. omega (arith, count-most nonAscii (drop (n - 2) xs), length-drop (n - 2) xs))
 
   -- the trigger is among the bytes that reach the places
@@ -187,7 +187,7 @@ module _ (c : Context) (s : Saved c) (xs : List ℕ) (n : ℕ) where
   unfolding reachesAt
   at-least f =
       either (λ (r : Reaches). 1 ≤ nonAsciiCount (bytesIn r)) (ltb n 2)
-      (λ e. rw (before-plain xs) (count-some nonAscii n xs 0 (f .within) (f .there)))
+      (λ e. rw (before-triggerless xs) (count-some nonAscii n xs 0 (f .within) (f .there)))
       (λ e. late (n - (n - 2)) (omega arith))
     where
       late : (k : ℕ) → n - 2 + k ≡ n → 1 ≤ nonAsciiCount (drop (n - 2) xs)

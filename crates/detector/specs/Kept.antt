@@ -12,7 +12,7 @@ use Rattle.state.specs.declared.reply.Reply.the-variants.{Accepted, Closed, Wro
 use Rattle.state.specs.declared.State.{State}
 
 -- what passed the tests
-pub record Fit (t : Tables) (s : State) (xs : List ℕ) : Type 0 where
+pub record Passed (t : Tables) (s : State) (xs : List ℕ) : Type 0 where
   pub sized : Sized t
   pub in-order : InOrder s
   pub going : s .front .closed ≡ false

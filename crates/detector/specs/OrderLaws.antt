@@ -22,10 +22,10 @@ use Rattle.tables.specs.Tables.{Tables}
 use Rattle.places.specs.Order.{SlateFor}
 use Rattle.places.specs.Slate.{feedAll}
 use Rattle.places.specs.Kept.{AllKept}
-use Rattle.places.specs.SlateLaws.{slate-more, slate-still, fed-slate}
+use Rattle.places.specs.SlateLaws.{slate-more, slate-unfed, fed-slate}
 use Rattle.places.specs.declared.place.Place.{Place}
 use Rattle.detector.specs.Feed.{placesBy, advanceOf}
-use Rattle.detector.specs.Kept.{Fit}
+use Rattle.detector.specs.Kept.{Passed}
 use Rattle.state.specs.State.{triggered}
 use Rattle.detector.specs.Front.{foundAs, triggerOf, Reaches, none, some, reachesAt, reachesBy, reachesOf, bytesIn, contextAt, contextBy, escBy, counted, uncounted}
 use Rattle.detector.specs.FrontLaws.{push-len, push-saved, no-trigger, escape-at, non-ascii-at, at-most, at-least}
@@ -49,19 +49,19 @@ reached t last fed before part ps m n o h l k =
     let warm = fed-slate t false fed before m ps (omega arith) (k .0) o in
     fed-slate t last true part n (feedAll t false before ps) l (k .1) (slate-more (m + length before) n true (feedAll t false before ps) h (omega arith) warm)
 
-module _ (t : Tables) (s : State) (xs : List ℕ) (last : Bool) (fit : Fit t s xs) where
+module _ (t : Tables) (s : State) (xs : List ℕ) (last : Bool) (passed : Passed t s xs) where
   abbrev front : Front
   front = s .front
 
   o : FrontFor (s .front)
-  o = fit .in-order .front
+  o = passed .in-order .front
 
   slate-before : SlateFor (s .front .bytes) false (triggered (s .front)) (s .places)
-  slate-before = rw (fit .going) at (fit .in-order .slate)
+  slate-before = rw (passed .going) at (passed .in-order .slate)
 
   -- the front, from what its parts come to
   front-for : (g : Trigger) → Saved (contextBy (front .context) xs g) → contextBy (front .context) xs g .len ≤ front .bytes + length xs → (r : Reaches) → nonAsciiCount (bytesIn r) ≤ length xs → FrontFor (counted (uncounted front xs last g) (bytesIn r))
-  front-for g saved held r few = record { most = fit .short; counted = omega (arith, o .counted, few); held = held; saved = saved }
+  front-for g saved held r few = record { most = passed .short; counted = omega (arith, o .counted, few); held = held; saved = saved }
 
   at-saved : (n : ℕ) → Saved (contextAt (front .context) n)
   unfolding contextAt
@@ -81,13 +81,13 @@ module _ (t : Tables) (s : State) (xs : List ℕ) (last : Bool) (fit : Fit t s x
 
       pick : (b : Bool) → ltb n 2 ≡ b → KeptBy t last (s .places) (cond b (some (bytesOf (front .context)) xs) (some [] (drop (n - 2) xs))) → SlateFor (front .bytes + length xs) last true (placesBy t last (s .places) (cond b (some (bytesOf (front .context)) xs) (some [] (drop (n - 2) xs))))
       pick true q f =
-          reached t last false (bytesOf (front .context)) xs (s .places) 0 (front .bytes) (slate-still (front .bytes) 0 false (s .places) (omega arith) unfed) (omega (arith, o .held, held-length)) (fit .short) f
+          reached t last false (bytesOf (front .context)) xs (s .places) 0 (front .bytes) (slate-unfed (front .bytes) 0 false (s .places) (omega arith) unfed) (omega (arith, o .held, held-length)) (passed .short) f
         where
           held-length : length (bytesOf (front .context)) ≤ front .context .len
           held-length = rw length-take (omega arith)
       pick false q f =
           let e : front .bytes + (n - 2) + length (drop (n - 2) xs) ≡ front .bytes + length xs = rw length-drop (omega arith) in
-          rw e at (reached t last false [] (drop (n - 2) xs) (s .places) (front .bytes) (front .bytes + (n - 2)) unfed (omega arith) (rw e (fit .short)) f)
+          rw e at (reached t last false [] (drop (n - 2) xs) (s .places) (front .bytes) (front .bytes + (n - 2)) unfed (omega arith) (rw e (passed .short)) f)
 
   -- each way of the trigger
   abbrev Stays : Trigger → Type 0
@@ -99,7 +99,7 @@ module _ (t : Tables) (s : State) (xs : List ℕ) (last : Bool) (fit : Fit t s x
       let grown = more (front .«esc_seen») (front .«non_ascii_seen») (nonAsciiCount xs) e in
       record {
         front = front-for Earlier (o .saved) (omega (arith, o .held)) (some [] xs) (count-most nonAscii xs);
-        slate = rw grown (reached t last true [] xs (s .places) (front .bytes) (front .bytes) (rw e at slate-before) (omega arith) (fit .short) k);
+        slate = rw grown (reached t last true [] xs (s .places) (front .bytes) (front .bytes) (rw e at slate-before) (omega arith) (passed .short) k);
       }
     where
       more : (e : Bool) (n k : ℕ) → (e || ltb 0 n) ≡ true → (e || ltb 0 (n + k)) ≡ true
@@ -129,7 +129,7 @@ module _ (t : Tables) (s : State) (xs : List ℕ) (last : Bool) (fit : Fit t s x
       let same : triggered front ≡ triggered (counted (uncounted front xs last Nowhere) []) = rw add-zero in
       record {
         front = front-for Nowhere (push-saved (front .context) xs (o .saved) q) (omega (arith, p .1, o .held)) none (omega arith);
-        slate = rw (sym same, e) (slate-still (front .bytes) (front .bytes + length xs) last (s .places) (fit .short) (rw e at slate-before));
+        slate = rw (sym same, e) (slate-unfed (front .bytes) (front .bytes + length xs) last (s .places) (passed .short) (rw e at slate-before));
       }
 
   stays-found : (r : Scanned) → scanOf xs ≡ r → triggered front ≡ false → Stays (foundAs r)

@@ -10,9 +10,9 @@ use Rattle.detector.specs.Front.{bytesIn, reachesOf, frontOf}
 use Rattle.state.specs.declared.front.Front.{Front}
 
 -- whether a chunk is the last one says nothing of what reaches the places
-unfoldable pub frontAfter : Front → List (List ℕ) → Front
-frontAfter f [] = f
-frontAfter f (x ∷ xs) = frontAfter (frontOf f x false) xs
+unfoldable pub frontThrough : Front → List (List ℕ) → Front
+frontThrough f [] = f
+frontThrough f (x ∷ xs) = frontThrough (frontOf f x false) xs
 
 unfoldable pub reachedBy : Front → List (List ℕ) → List ℕ
 reachedBy f [] = []
@@ -28,7 +28,7 @@ pub record FromHead (stream reached : List ℕ) : Type 0 where
   pub head : List ℕ
   pub rest : List ℕ
   pub cut : stream ≡ head ++ rest
-  pub plain : any isTrigger head ≡ false
+  pub triggerless : any isTrigger head ≡ false
   pub begins : Begins rest
   pub kept : ℕ
   pub two : 2 ≤ kept
@@ -36,5 +36,5 @@ pub record FromHead (stream reached : List ℕ) : Type 0 where
   pub is : reached ≡ last kept head ++ rest
 
 -- of one without: nothing
-abbrev pub Reached : List ℕ → List ℕ → Type 0
-Reached stream reached = ((any isTrigger stream ≡ false) × (reached ≡ [])) ⊎ FromHead stream reached
+abbrev pub FromStream : List ℕ → List ℕ → Type 0
+FromStream stream reached = ((any isTrigger stream ≡ false) × (reached ≡ [])) ⊎ FromHead stream reached

@@ -20,9 +20,9 @@ use Rattle.context.specs.declared.Scanned.{Scanned}
 use Rattle.context.specs.declared.Scanned.the-variants as scanned
 use Rattle.state.specs.State.{fresh, triggered}
 use Rattle.detector.specs.Front.{foundAs, triggerOf, reachesAt, reachesBy, reachesOf, bytesIn, contextBy, escBy, frontOf}
-use Rattle.detector.specs.FrontLaws.{plain-count, no-trigger, non-ascii-at, at-least}
+use Rattle.detector.specs.FrontLaws.{triggerless-count, no-trigger, non-ascii-at, at-least}
 use Rattle.state.specs.Order.{Saved}
-use Rattle.detector.specs.Stream.{frontAfter, reachedBy, FromHead, Reached}
+use Rattle.detector.specs.Stream.{frontThrough, reachedBy, FromHead, FromStream}
 use Rattle.state.specs.declared.front.Front.{Front}
 
 -- ---- after a trigger all chunks whole
@@ -45,34 +45,34 @@ whole-chunks f [] e = refl
 whole-chunks f (x ∷ xs) e = ap (λ (l : List ℕ). l ++ reachedBy (frontOf f x false) xs) (whole f x e) ∙ ap (λ (l : List ℕ). x ++ l) (whole-chunks (frontOf f x false) xs (stays-triggered f x e))
 
 -- ---- before it: the context is the last two bytes so far
-pub record Quiet (pre : List ℕ) (f : Front) : Type 0 where
-  pub plain : any isTrigger pre ≡ false
+pub record Untriggered (pre : List ℕ) (f : Front) : Type 0 where
+  pub triggerless : any isTrigger pre ≡ false
   pub context-is : f .context ≡ contextOf (last 2 pre)
   pub no-escape : f .«esc_seen» ≡ false
   pub none-seen : f .«non_ascii_seen» ≡ 0
 
-untriggered : (pre : List ℕ) (f : Front) → Quiet pre f → triggered f ≡ false
-untriggered pre f q = rw (q .no-escape, q .none-seen)
+not-triggered : (pre : List ℕ) (f : Front) → Untriggered pre f → triggered f ≡ false
+not-triggered pre f q = rw (q .no-escape, q .none-seen)
 
-module _ (pre x : List ℕ) (f : Front) (q : Quiet pre f) where
+module _ (pre x : List ℕ) (f : Front) (q : Untriggered pre f) where
   found : (r : Scanned) → scanOf x ≡ r → triggerOf f x ≡ foundAs r
   unfolding triggerOf
-  found r e = rw (untriggered pre f q, e)
+  found r e = rw (not-triggered pre f q, e)
 
-  quiet-next : scanOf x ≡ scanned.End → Quiet (pre ++ x) (frontOf f x false)
+  untriggered-next : scanOf x ≡ scanned.End → Untriggered (pre ++ x) (frontOf f x false)
   unfolding contextBy escBy reachesBy count
-  quiet-next e =
+  untriggered-next e =
       let g = found scanned.End e in
       record {
-        plain = any-append isTrigger pre x ∙ rw (q .plain, no-trigger x e);
+        triggerless = any-append isTrigger pre x ∙ rw (q .triggerless, no-trigger x e);
         context-is = rw (g, q .context-is) (push-context pre x);
         no-escape = rw g (q .no-escape);
         none-seen = rw (g, add-zero) (q .none-seen);
       }
 
-  quiet-none : scanOf x ≡ scanned.End → bytesIn (reachesOf f x) ≡ []
+  untriggered-none : scanOf x ≡ scanned.End → bytesIn (reachesOf f x) ≡ []
   unfolding reachesBy
-  quiet-none e = rw (found scanned.End e)
+  untriggered-none e = rw (found scanned.End e)
 
   saved : Saved (f .context)
   unfolding last any
@@ -80,7 +80,7 @@ module _ (pre x : List ℕ) (f : Front) (q : Quiet pre f) where
       rw (q .context-is)
       (record {
         two = short (last 2 pre) (last-length 2 pre);
-        plain = ap (any isTrigger) (bytes-context (last 2 pre) (last-length 2 pre)) ∙ any-drop isTrigger (length pre - 2) pre (q .plain);
+        triggerless = ap (any isTrigger) (bytes-context (last 2 pre) (last-length 2 pre)) ∙ any-drop isTrigger (length pre - 2) pre (q .triggerless);
       })
     where
       short : (l : List ℕ) → length l ≤ 2 → contextOf l .len ≤ 2
@@ -104,7 +104,7 @@ module _ (pre x : List ℕ) (f : Front) (q : Quiet pre f) where
           head = pre ++ take n x;
           rest = drop n x ++ later;
           cut = ap (λ (l : List ℕ). pre ++ (l ++ later)) (sym (take-append-drop n x)) ∙ (ap (λ (l : List ℕ). pre ++ l) (append-assoc (take n x) (drop n x) later) ∙ sym (append-assoc pre (take n x) (drop n x ++ later)));
-          plain = any-append isTrigger pre (take n x) ∙ rw (q .plain, p);
+          triggerless = any-append isTrigger pre (take n x) ∙ rw (q .triggerless, p);
           begins = rw (drop-cons x n 0 within) t;
           kept = j;
           two = h;
@@ -167,44 +167,44 @@ module _ (pre x : List ℕ) (f : Front) (q : Quiet pre f) where
       seen false n k h = lt-ltb 0 (n + k) (omega arith)
 
 -- ---- the whole stream
-with-rest : (pre x : List ℕ) (xs : List (List ℕ)) (f : Front) → triggered (frontOf f x false) ≡ true → FromHead (pre ++ (x ++ flatten xs)) (bytesIn (reachesOf f x) ++ flatten xs) → Reached (pre ++ flatten (x ∷ xs)) (reachedBy f (x ∷ xs))
+with-rest : (pre x : List ℕ) (xs : List (List ℕ)) (f : Front) → triggered (frontOf f x false) ≡ true → FromHead (pre ++ (x ++ flatten xs)) (bytesIn (reachesOf f x) ++ flatten xs) → FromStream (pre ++ flatten (x ∷ xs)) (reachedBy f (x ∷ xs))
 unfolding reachedBy flatten
 with-rest pre x xs f e h = inr (rw (whole-chunks (frontOf f x false) xs e) h)
 
 -- one chunk, given what holds of the chunks after it as long as no trigger is met
-chunk-reached : (pre x : List ℕ) (xs : List (List ℕ)) (f : Front) → Quiet pre f → (Quiet (pre ++ x) (frontOf f x false) → Reached ((pre ++ x) ++ flatten xs) (reachedBy (frontOf f x false) xs)) → (r : Scanned) → scanOf x ≡ r → Reached (pre ++ flatten (x ∷ xs)) (reachedBy f (x ∷ xs))
+chunk-reached : (pre x : List ℕ) (xs : List (List ℕ)) (f : Front) → Untriggered pre f → (Untriggered (pre ++ x) (frontOf f x false) → FromStream ((pre ++ x) ++ flatten xs) (reachedBy (frontOf f x false) xs)) → (r : Scanned) → scanOf x ≡ r → FromStream (pre ++ flatten (x ∷ xs)) (reachedBy f (x ∷ xs))
 unfolding reachedBy flatten
 chunk-reached pre x xs f q more (scanned.Escape n) e = with-rest pre x xs f (now-escape pre x f q n e) (at-escape pre x f q n (flatten xs) e)
 chunk-reached pre x xs f q more (scanned.NonAscii n) e = with-rest pre x xs f (now-non-ascii pre x f q n e) (at-non-ascii pre x f q n (flatten xs) e)
 chunk-reached pre x xs f q more scanned.End e =
     let s : pre ++ (x ++ flatten xs) ≡ (pre ++ x) ++ flatten xs = sym (append-assoc pre x (flatten xs)) in
-    let r : bytesIn (reachesOf f x) ++ reachedBy (frontOf f x false) xs ≡ reachedBy (frontOf f x false) xs = ap (λ (l : List ℕ). l ++ reachedBy (frontOf f x false) xs) (quiet-none pre x f q e) in
-    rw (s, r) (more (quiet-next pre x f q e))
+    let r : bytesIn (reachesOf f x) ++ reachedBy (frontOf f x false) xs ≡ reachedBy (frontOf f x false) xs = ap (λ (l : List ℕ). l ++ reachedBy (frontOf f x false) xs) (untriggered-none pre x f q e) in
+    rw (s, r) (more (untriggered-next pre x f q e))
 
-reached-from : (pre : List ℕ) (f : Front) (chunks : List (List ℕ)) → Quiet pre f → Reached (pre ++ flatten chunks) (reachedBy f chunks)
+reached-from : (pre : List ℕ) (f : Front) (chunks : List (List ℕ)) → Untriggered pre f → FromStream (pre ++ flatten chunks) (reachedBy f chunks)
 unfolding reachedBy flatten
-reached-from pre f [] q = inl (ap (any isTrigger) (append-nil pre) ∙ q .plain, refl)
-reached-from pre f (x ∷ xs) q = chunk-reached pre x xs f q (λ (n : Quiet (pre ++ x) (frontOf f x false)). reached-from (pre ++ x) (frontOf f x false) xs n) (scanOf x) refl
+reached-from pre f [] q = inl (ap (any isTrigger) (append-nil pre) ∙ q .triggerless, refl)
+reached-from pre f (x ∷ xs) q = chunk-reached pre x xs f q (λ (n : Untriggered (pre ++ x) (frontOf f x false)). reached-from (pre ++ x) (frontOf f x false) xs n) (scanOf x) refl
 
 -- Over a whole stream, however it is cut: nothing without a trigger; else at most the last three bytes of the head, always its
 -- last two where it has them, then all that follows.
-pub stream-reaches : (chunks : List (List ℕ)) → Reached (flatten chunks) (reachedBy fresh chunks)
+pub stream-reaches : (chunks : List (List ℕ)) → FromStream (flatten chunks) (reachedBy fresh chunks)
 unfolding last any
-stream-reaches chunks = reached-from [] fresh chunks (record { plain = refl; context-is = refl; no-escape = refl; none-seen = refl })
+stream-reaches chunks = reached-from [] fresh chunks (record { triggerless = refl; context-is = refl; no-escape = refl; none-seen = refl })
 
 -- ---- the count
-counts-so : (f : Front) (chunks : List (List ℕ)) → frontAfter f chunks .«non_ascii_seen» ≡ f .«non_ascii_seen» + nonAsciiCount (reachedBy f chunks)
-unfolding frontAfter reachedBy count
+counts-so : (f : Front) (chunks : List (List ℕ)) → frontThrough f chunks .«non_ascii_seen» ≡ f .«non_ascii_seen» + nonAsciiCount (reachedBy f chunks)
+unfolding frontThrough reachedBy count
 counts-so f [] = sym (add-zero _)
 counts-so f (x ∷ xs) = counts-so (frontOf f x false) xs ∙ rw count-append (omega arith)
 
-same-count : (stream reached : List ℕ) → Reached stream reached → nonAsciiCount reached ≡ nonAsciiCount stream
+same-count : (stream reached : List ℕ) → FromStream stream reached → nonAsciiCount reached ≡ nonAsciiCount stream
 unfolding count last
-same-count stream reached (inl (p, e)) = ap nonAsciiCount e ∙ sym (plain-count stream p)
+same-count stream reached (inl (p, e)) = ap nonAsciiCount e ∙ sym (triggerless-count stream p)
 same-count stream reached (inr h) =
-    let p = plain-count (last (h .kept) (h .head)) (any-drop isTrigger (length (h .head) - h .kept) (h .head) (h .plain)) in
-    ap nonAsciiCount (h .is) ∙ (count-append nonAscii (last (h .kept) (h .head)) (h .rest) ∙ (rw (p, zero-add) (sym (ap nonAsciiCount (h .cut) ∙ (count-append nonAscii (h .head) (h .rest) ∙ rw (plain-count (h .head) (h .plain), zero-add))))))
+    let p = triggerless-count (last (h .kept) (h .head)) (any-drop isTrigger (length (h .head) - h .kept) (h .head) (h .triggerless)) in
+    ap nonAsciiCount (h .is) ∙ (count-append nonAscii (last (h .kept) (h .head)) (h .rest) ∙ (rw (p, zero-add) (sym (ap nonAsciiCount (h .cut) ∙ (count-append nonAscii (h .head) (h .rest) ∙ rw (triggerless-count (h .head) (h .triggerless), zero-add))))))
 
 -- The non-ASCII count is the number of bytes at or above 0x80 of the whole stream.
-pub stream-counts : (chunks : List (List ℕ)) → frontAfter fresh chunks .«non_ascii_seen» ≡ nonAsciiCount (flatten chunks)
+pub stream-counts : (chunks : List (List ℕ)) → frontThrough fresh chunks .«non_ascii_seen» ≡ nonAsciiCount (flatten chunks)
 stream-counts chunks = counts-so fresh chunks ∙ (zero-add _ ∙ same-count (flatten chunks) (reachedBy fresh chunks) (stream-reaches chunks))

@@ -4,7 +4,7 @@ ghost use mathlib.Core.Path.{_≡_};
 ghost use Rattle.tables.specs.Tables.{tables};
 ghost use Rattle.state.specs.Order.{InOrder};
 ghost use Rattle.detector.specs.Feed.{verdictOf, accepted, advanceOf, feedOf};
-ghost use Rattle.detector.specs.Kept.{Fit, StaysIn};
+ghost use Rattle.detector.specs.Kept.{Passed, StaysIn};
 use crate::front;
 use crate::front::Due;
 use places::order;
@@ -67,14 +67,14 @@ fn advance(
     extras: &[i16],
     weights: &[i32],
 ) -> State
-    requires { ⌜ Fit (tables (now classes4) (now marks4) (now pairs4) (now classes5) (now marks5) (now pairs5) (now classes6) (now marks6) (now pairs6) (now classes7) (now marks7) (now pairs7) (now big5) (now euckr) (now jis) (now extras) (now weights)) state (now chunk) ⌝ }
+    requires { ⌜ Passed (tables (now classes4) (now marks4) (now pairs4) (now classes5) (now marks5) (now pairs5) (now classes6) (now marks6) (now pairs6) (now classes7) (now marks7) (now pairs7) (now big5) (now euckr) (now jis) (now extras) (now weights)) state (now chunk) ⌝ }
     ensures { λ r. ⌜ r ≡ advanceOf (tables (now (classes4 .entry)) (now (marks4 .entry)) (now (pairs4 .entry)) (now (classes5 .entry)) (now (marks5 .entry)) (now (pairs5 .entry)) (now (classes6 .entry)) (now (marks6 .entry)) (now (pairs6 .entry)) (now (classes7 .entry)) (now (marks7 .entry)) (now (pairs7 .entry)) (now (big5 .entry)) (now (euckr .entry)) (now (jis .entry)) (now (extras .entry)) (now (weights .entry))) state (now (chunk .entry)) last ⌝ }
     ensures { λ r. ⌜ InOrder r ⌝ }
 {
     let front = state.front;
     let places = state.places;
     let trigger = front::trigger_in(front, chunk);
-    let next = front::after(front, trigger, chunk, last);
+    let next = front::uncounted(front, trigger, chunk, last);
     match front::due_by(front, trigger) {
         Due::Nothing => State {
             front: next,

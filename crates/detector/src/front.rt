@@ -94,7 +94,7 @@ fn escaped(front: Front, trigger: Trigger) -> bool
 }
 
 // After a chunk; the non-ASCII bytes among those that reach the places are still to be counted.
-pub(crate) fn after(front: Front, trigger: Trigger, chunk: &[u8], last: bool) -> Front
+pub(crate) fn uncounted(front: Front, trigger: Trigger, chunk: &[u8], last: bool) -> Front
     requires { ⌜ Roomy front (length (now chunk)) ⌝ }
     ensures { λ r. ⌜ r ≡ uncounted front (now (chunk .entry)) last trigger ⌝ }
 {

@@ -5,7 +5,7 @@ use mathlib.Core.List.{List, [], _∷_}
 use Prim.Native.Nat.{ℕ, _^_}
 use lib.IntN.{ℤ, pos, _+ℤ_}
 use lib.ListN.{getD, set}
-use Rattle.weights.specs.Weights.{placeOf, weightOf, big5Pua, big5Extension, longWord}
+use Rattle.weights.specs.Weights.{indexOf, weightOf, big5Pua, big5Extension, longWord}
 use Rattle.context.specs.Context.{bytesOf}
 use Rattle.iso2022jp.specs.Iso2022Jp as iso2022jp
 use Rattle.utf8.specs.Utf8 as utf-8
@@ -27,8 +27,8 @@ use Rattle.state.specs.State.{startOf}
 use Rattle.state.specs.declared.State.{State}
 
 -- the state after a chunk that is not the last
-abbrev pub after : Tables → State → List ℕ → State
-after t s xs = feedOf t s xs false .state
+abbrev pub stateAfter : Tables → State → List ℕ → State
+stateAfter t s xs = feedOf t s xs false .state
 
 -- of a chunk, `part` is fed, after `before`, which was saved: the front says so, and every place gets it
 pub record FedAs (t : Tables) (s : State) (xs before part : List ℕ) : Type 0 where
@@ -37,7 +37,7 @@ pub record FedAs (t : Tables) (s : State) (xs before part : List ℕ) : Type 0 w
 
 -- a first chunk leaves p in place k, if place k takes part
 abbrev pub Leaves : Tables → ℕ → ℕ → List ℕ → Place → Type 0
-Leaves t bits k xs p = takenOf bits (2 ^ k) ≡ Live (pos 0) → (d : Place) → getD (after t (startOf bits) xs .places) k d ≡ p
+Leaves t bits k xs p = takenOf bits (2 ^ k) ≡ Live (pos 0) → (d : Place) → getD (stateAfter t (startOf bits) xs .places) k d ≡ p
 
 -- ---- words of Hangul
 -- the same tables with a long-word weight of 0
@@ -52,7 +52,7 @@ withoutLong t =
       euckr = t .euckr;
       jis = t .jis;
       extras = t .extras;
-      weights = set (t .weights) (placeOf longWord) (pos 0);
+      weights = set (t .weights) (indexOf longWord) (pos 0);
     }
 
 -- the bytes leave place 2 live, with a score larger by k than with a long-word weight of 0, and else the same
@@ -67,11 +67,11 @@ pub record EdgeTable (t : Tables) (bits : ℕ) : Type 0 where
   -- no bytes: non-ASCII count 0
   pub no-bytes : (last : Bool) → feedOf t (startOf bits) [] last .state .front .«non_ascii_seen» ≡ 0
   -- saved 61, 62, 63 in single chunks: context 62 63
-  pub saved-singly : bytesOf (after t (after t (after t (startOf bits) (0x61 ∷ [])) (0x62 ∷ [])) (0x63 ∷ []) .front .context) ≡ 0x62 ∷ 0x63 ∷ []
+  pub saved-singly : bytesOf (stateAfter t (stateAfter t (stateAfter t (startOf bits) (0x61 ∷ [])) (0x62 ∷ [])) (0x63 ∷ []) .front .context) ≡ 0x62 ∷ 0x63 ∷ []
   -- 61 62 63 E9: fed from offset 1
   pub from-1 : FedAs t (startOf bits) (0x61 ∷ 0x62 ∷ 0x63 ∷ 0xE9 ∷ []) [] (0x62 ∷ 0x63 ∷ 0xE9 ∷ [])
   -- saved 62 63, then 61 E9: fed 62 63, then 61 E9
-  pub saved-then : FedAs t (after t (startOf bits) (0x62 ∷ 0x63 ∷ [])) (0x61 ∷ 0xE9 ∷ []) (0x62 ∷ 0x63 ∷ []) (0x61 ∷ 0xE9 ∷ [])
+  pub saved-then : FedAs t (stateAfter t (startOf bits) (0x62 ∷ 0x63 ∷ [])) (0x61 ∷ 0xE9 ∷ []) (0x62 ∷ 0x63 ∷ []) (0x61 ∷ 0xE9 ∷ [])
   -- 61 62 63 64 1B: fed from offset 2, escape flag set
   pub from-2 : FedAs t (startOf bits) (0x61 ∷ 0x62 ∷ 0x63 ∷ 0x64 ∷ 0x1B ∷ []) [] (0x63 ∷ 0x64 ∷ 0x1B ∷ [])
   pub escape-flag : (last : Bool) → feedOf t (startOf bits) (0x61 ∷ 0x62 ∷ 0x63 ∷ 0x64 ∷ 0x1B ∷ []) last .state .front .«esc_seen» ≡ true
@@ -89,8 +89,8 @@ pub record EdgeTable (t : Tables) (bits : ℕ) : Type 0 where
   -- Big5 FD 61, unmapped: PUA weight once
   pub big5-fd-61 : isMapped (getD (t .big5) (pointerOf 0xFD 0x61) 0) ≡ false → Leaves t bits 3 (0xFD ∷ 0x61 ∷ []) (place (Big5 (rest Cj 0x61)) (Live (weightOf (t .weights) big5Pua)))
   -- Big5 A4 FF: none; lone 80: none
-  pub big5-a4-ff : Leaves t bits 3 (0xA4 ∷ 0xFF ∷ []) (place (Big5 big5.freshOf) None)
-  pub big5-lone-80 : Leaves t bits 3 (0x80 ∷ []) (place (Big5 big5.freshOf) None)
+  pub big5-a4-ff : Leaves t bits 3 (0xA4 ∷ 0xFF ∷ []) (place (Big5 big5.fresh) None)
+  pub big5-lone-80 : Leaves t bits 3 (0x80 ∷ []) (place (Big5 big5.fresh) None)
   -- EUC-KR: long-word weight absent at five Hangul, once at six, twice at seven
   pub euckr-five : (xs : List ℕ) → Word (t .euckr) 5 xs → Adds t bits xs (pos 0)
   pub euckr-six : (xs : List ℕ) → Word (t .euckr) 6 xs → Adds t bits xs (weightOf (t .weights) longWord)

@@ -36,7 +36,7 @@ use Rattle.euckr.specs.Edges as euckr-edges
 use Rattle.euckr.specs.Edges.{Word, no-hangul, a-hangul, word-lives}
 use Rattle.euckr.specs.Scoring as euckr
 use Rattle.euckr.specs.declared.EucKr.{EucKr as EucKrRecord}
-use Rattle.kinds.specs.Kinds.{freshIn, stepOf}
+use Rattle.kinds.specs.Kinds.{freshOf, stepOf}
 use Rattle.kinds.specs.KindsLaws.{run-utf-8, run-iso2022jp, run-big5, run-euckr}
 use Rattle.tables.specs.Own.{ownOf}
 use Rattle.tables.specs.OwnLaws.{own-sized}
@@ -51,7 +51,7 @@ use Rattle.places.specs.SlateLaws.{feed-all-nil, feed-at}
 use Rattle.places.specs.declared.place.Place.{Place}
 use Rattle.places.specs.declared.place.Score.the-variants.{Live}
 use Rattle.detector.specs.Feed.{placesBy, advanceOf, accepted, feedOf}
-use Rattle.detector.specs.Kept.{Fit}
+use Rattle.detector.specs.Kept.{Passed}
 use Rattle.detector.specs.FeedLaws.{judged-accept, feed-accepted}
 use Rattle.state.specs.State.{fresh, startOf}
 use Rattle.detector.specs.Front.{foundAs, triggerOf, some, reachesAt, reachesBy, reachesOf, contextBy, escBy}
@@ -60,27 +60,27 @@ use Rattle.state.specs.OrderLaws.{true-order, start-in-order}
 use Rattle.detector.specs.OrderLaws.{advance-in-order}
 use Rattle.detector.specs.declared.feed.Fed.{Fed}
 use Rattle.state.specs.declared.State.{State}
-use Rattle.edges.specs.Edges.{after, FedAs, Leaves, withoutLong, Adds, EdgeTable}
+use Rattle.edges.specs.Edges.{stateAfter, FedAs, Leaves, withoutLong, Adds, EdgeTable}
 
 -- ---- a chunk that passes the tests
-module _ (t : Tables) (s : State) (xs : List ℕ) (fit : Fit t s xs) where
+module _ (t : Tables) (s : State) (xs : List ℕ) (passed : Passed t s xs) where
   fed-is : (last : Bool) → feedOf t s xs last ≡ accepted (advanceOf t s xs last)
-  fed-is last = sym (feed-accepted t s xs last (judged-accept s (sizedB t) (length xs) (true-order s (fit .in-order)) (fit .going) (true-sized t (fit .sized)) (fit .short)))
+  fed-is last = sym (feed-accepted t s xs last (judged-accept s (sizedB t) (length xs) (true-order s (passed .in-order)) (passed .going) (true-sized t (passed .sized)) (passed .short)))
 
   fed-as : (before part : List ℕ) → reachesOf (s .front) xs ≡ some before part → FedAs t s xs before part
   unfolding advanceOf placesBy
   fed-as before part e = record { reach = e; fed = λ (last : Bool). ap (λ (f : Fed). f .state .places) (fed-is last) ∙ rw e }
 
 -- ---- a first chunk
-first-fit : (t : Tables) → Sized t → (bits : ℕ) (xs : List ℕ) → length xs ≤ limit → Fit t (startOf bits) xs
-first-fit t z bits xs h = record { sized = z; in-order = start-in-order bits; going = refl; short = omega (arith, h) }
+first-passed : (t : Tables) → Sized t → (bits : ℕ) (xs : List ℕ) → length xs ≤ limit → Passed t (startOf bits) xs
+first-passed t z bits xs h = record { sized = z; in-order = start-in-order bits; going = refl; short = omega (arith, h) }
 
 module _ (t : Tables) (z : Sized t) (bits : ℕ) where
   first-is : (xs : List ℕ) → length xs ≤ limit → (last : Bool) → feedOf t (startOf bits) xs last ≡ accepted (advanceOf t (startOf bits) xs last)
-  first-is xs h last = fed-is t (startOf bits) xs (first-fit t z bits xs h) last
+  first-is xs h last = fed-is t (startOf bits) xs (first-passed t z bits xs h) last
 
   first-as : (xs part : List ℕ) → length xs ≤ limit → reachesOf fresh xs ≡ some [] part → FedAs t (startOf bits) xs [] part
-  first-as xs part h e = fed-as t (startOf bits) xs (first-fit t z bits xs h) [] part e
+  first-as xs part h e = fed-as t (startOf bits) xs (first-passed t z bits xs h) [] part e
 
 -- where it begins with a trigger, all of it is fed
 first-reaches : (b : ℕ) (bs : List ℕ) → isTrigger b ≡ true → reachesOf fresh (b ∷ bs) ≡ some [] (b ∷ bs)
@@ -105,20 +105,20 @@ abbrev saving : ℕ → Context → ℕ → State
 saving bits c n = record { front = record { context = c; «esc_seen» = false; «non_ascii_seen» = 0; closed = false; bytes = n }; places = slate.startOf bits }
 
 module _ (t : Tables) (z : Sized t) (bits : ℕ) (c : Context) (n : ℕ) (o : InOrder (saving bits c n)) (xs : List ℕ) (short : n + length xs ≤ limit) where
-  saving-fit : Fit t (saving bits c n) xs
-  saving-fit = record { sized = z; in-order = o; going = refl; short = short }
+  saving-passed : Passed t (saving bits c n) xs
+  saving-passed = record { sized = z; in-order = o; going = refl; short = short }
 
   module _ (e : scanOf xs ≡ scanned.End) where
     saved-as : advanceOf t (saving bits c n) xs false ≡ saving bits (pushOf c xs) (n + length xs)
     unfolding advanceOf placesBy triggerOf reachesBy contextBy escBy count
     saved-as = rw e
 
-    saved-is : after t (saving bits c n) xs ≡ saving bits (pushOf c xs) (n + length xs)
-    saved-is = ap (λ (f : Fed). f .state) (fed-is t (saving bits c n) xs saving-fit false) ∙ saved-as
+    saved-is : stateAfter t (saving bits c n) xs ≡ saving bits (pushOf c xs) (n + length xs)
+    saved-is = ap (λ (f : Fed). f .state) (fed-is t (saving bits c n) xs saving-passed false) ∙ saved-as
 
     saved-in-order : InOrder (saving bits (pushOf c xs) (n + length xs))
     unfolding triggerOf reachesBy
-    saved-in-order = rw saved-as at (advance-in-order t (saving bits c n) xs false saving-fit (rw e tt))
+    saved-in-order = rw saved-as at (advance-in-order t (saving bits c n) xs false saving-passed (rw e tt))
 
 -- ---- the lines on the machines: a place's run is its machine's own
 -- what EUC-KR and Big5 are lent
@@ -137,13 +137,13 @@ module _ (t : Tables) (z : Sized t) (bits b : ℕ) (bs : List ℕ) (short : leng
   unfolding slate.startOf
   iso2022jp-leaves o q = first-leaves t z bits b bs short e 1 (Iso2022Jp iso2022jp.fresh) (carried Iso2022Jp o) (omega arith) (λ (d : Place). refl) (run-iso2022jp (ownOf t 1) (pos 0) (b ∷ bs) iso2022jp.fresh ∙ ap (carried Iso2022Jp) q)
 
-  euckr-leaves : (o : Outcome EucKrRecord) → run (euckr.stepOf (toEucKr t)) (live euckr.freshOf (pos 0)) (b ∷ bs) ≡ o → Leaves t bits 2 (b ∷ bs) (placeAs (EucKr euckr.freshOf) (carried EucKr o))
+  euckr-leaves : (o : Outcome EucKrRecord) → run (euckr.stepOf (toEucKr t)) (live euckr.fresh (pos 0)) (b ∷ bs) ≡ o → Leaves t bits 2 (b ∷ bs) (placeAs (EucKr euckr.fresh) (carried EucKr o))
   unfolding slate.startOf
-  euckr-leaves o q = first-leaves t z bits b bs short e 2 (EucKr euckr.freshOf) (carried EucKr o) (omega arith) (λ (d : Place). refl) (run-euckr (ownOf t 2) (pos 0) (b ∷ bs) euckr.freshOf ∙ ap (carried EucKr) q)
+  euckr-leaves o q = first-leaves t z bits b bs short e 2 (EucKr euckr.fresh) (carried EucKr o) (omega arith) (λ (d : Place). refl) (run-euckr (ownOf t 2) (pos 0) (b ∷ bs) euckr.fresh ∙ ap (carried EucKr) q)
 
-  big5-leaves : (o : Outcome Big5Record) → run (big5.stepOf (toBig5 t)) (live big5.freshOf (pos 0)) (b ∷ bs) ≡ o → Leaves t bits 3 (b ∷ bs) (placeAs (Big5 big5.freshOf) (carried Big5 o))
+  big5-leaves : (o : Outcome Big5Record) → run (big5.stepOf (toBig5 t)) (live big5.fresh (pos 0)) (b ∷ bs) ≡ o → Leaves t bits 3 (b ∷ bs) (placeAs (Big5 big5.fresh) (carried Big5 o))
   unfolding slate.startOf
-  big5-leaves o q = first-leaves t z bits b bs short e 3 (Big5 big5.freshOf) (carried Big5 o) (omega arith) (λ (d : Place). refl) (run-big5 (ownOf t 3) (pos 0) (b ∷ bs) big5.freshOf ∙ ap (carried Big5) q)
+  big5-leaves o q = first-leaves t z bits b bs short e 3 (Big5 big5.fresh) (carried Big5 o) (omega arith) (λ (d : Place). refl) (run-big5 (ownOf t 3) (pos 0) (b ∷ bs) big5.fresh ∙ ap (carried Big5) q)
 
 -- ---- words of Hangul
 word-length : (index : List ℕ) (n : ℕ) (xs : List ℕ) → Word index n xs → length xs ≡ 2 * n
@@ -180,7 +180,7 @@ module _ (t : Tables) (z : Sized t) (bits : ℕ) where
   same-lent : toEucKr (withoutLong t) ≡ euckr-edges.shortWords (toEucKr t)
   same-lent = ap (euckr.lent (t .euckr) (t .extras)) (scale-without (t .weights) (rw (own-sized t z 2 (omega arith) .1 .1) (omega arith)))
 
-  adds-at : (b : ℕ) (bs : List ℕ) (k : ℤ) → length (b ∷ bs) ≤ limit → isTrigger b ≡ true → Lives (run (euckr.stepOf (euckr-edges.shortWords (toEucKr t))) (live euckr.freshOf (pos 0)) (b ∷ bs)) → run (euckr.stepOf (toEucKr t)) (live euckr.freshOf (pos 0)) (b ∷ bs) ≡ plus k (run (euckr.stepOf (euckr-edges.shortWords (toEucKr t))) (live euckr.freshOf (pos 0)) (b ∷ bs)) → Adds t bits (b ∷ bs) k
+  adds-at : (b : ℕ) (bs : List ℕ) (k : ℤ) → length (b ∷ bs) ≤ limit → isTrigger b ≡ true → Lives (run (euckr.stepOf (euckr-edges.shortWords (toEucKr t))) (live euckr.fresh (pos 0)) (b ∷ bs)) → run (euckr.stepOf (toEucKr t)) (live euckr.fresh (pos 0)) (b ∷ bs) ≡ plus k (run (euckr.stepOf (euckr-edges.shortWords (toEucKr t))) (live euckr.fresh (pos 0)) (b ∷ bs)) → Adds t bits (b ∷ bs) k
   unfolding placeAs carried plus
   adds-at b bs k h e l line =
       let m = l .0 in
@@ -188,19 +188,19 @@ module _ (t : Tables) (z : Sized t) (bits : ℕ) where
       record {
         machine = l .0;
         score = l .1 .0;
-        without = euckr-leaves (withoutLong t) (sized-without t z) bits b bs h e (live m s) (ap (λ (x : euckr.Lent). run (euckr.stepOf x) (live euckr.freshOf (pos 0)) (b ∷ bs)) same-lent ∙ l .1 .1);
+        without = euckr-leaves (withoutLong t) (sized-without t z) bits b bs h e (live m s) (ap (λ (x : euckr.Lent). run (euckr.stepOf x) (live euckr.fresh (pos 0)) (b ∷ bs)) same-lent ∙ l .1 .1);
         with = euckr-leaves t z bits b bs h e (live m (s +ℤ k)) (line ∙ (ap (plus k) (l .1 .1) ∙ ap (live m) (+ℤ-comm k s)));
       }
 
-  adds : (n : ℕ) (k : ℤ) → suc n ≤ 7 → ((xs : List ℕ) → Word (t .euckr) (suc n) xs → run (euckr.stepOf (toEucKr t)) (live euckr.freshOf (pos 0)) xs ≡ plus k (run (euckr.stepOf (euckr-edges.shortWords (toEucKr t))) (live euckr.freshOf (pos 0)) xs)) → (xs : List ℕ) → Word (t .euckr) (suc n) xs → Adds t bits xs k
+  adds : (n : ℕ) (k : ℤ) → suc n ≤ 7 → ((xs : List ℕ) → Word (t .euckr) (suc n) xs → run (euckr.stepOf (toEucKr t)) (live euckr.fresh (pos 0)) xs ≡ plus k (run (euckr.stepOf (euckr-edges.shortWords (toEucKr t))) (live euckr.fresh (pos 0)) xs)) → (xs : List ℕ) → Word (t .euckr) (suc n) xs → Adds t bits xs k
   adds n₁ k h line xs (a-hangul n lead b bs pair rest) =
       let w = a-hangul n lead b bs pair rest in
-      adds-at lead (b ∷ bs) k (omega (arith, word-length (t .euckr) (suc n) (lead ∷ b ∷ bs) w)) (lead-trigger lead (pair .a-lead)) (word-lives (euckr-edges.shortWords (toEucKr t)) (suc n) (lead ∷ b ∷ bs) w euckr.freshOf (pos 0) refl) (line (lead ∷ b ∷ bs) w)
+      adds-at lead (b ∷ bs) k (omega (arith, word-length (t .euckr) (suc n) (lead ∷ b ∷ bs) w)) (lead-trigger lead (pair .a-lead)) (word-lives (euckr-edges.shortWords (toEucKr t)) (suc n) (lead ∷ b ∷ bs) w euckr.fresh (pos 0) refl) (line (lead ∷ b ∷ bs) w)
 
 -- ---- the table
 -- The table holds, over all lent data of exact lengths, from any start.
 pub edge-table : (t : Tables) → Sized t → (bits : ℕ) → EdgeTable t bits
-unfolding advanceOf triggerOf reachesBy reachesAt scanOf headOf escBy pushOf last count placeAs carried freshIn big5.scaleOf euckr.scaleOf
+unfolding advanceOf triggerOf reachesBy reachesAt scanOf headOf escBy pushOf last count placeAs carried freshOf big5.scaleOf euckr.scaleOf
 edge-table t z bits =
     let start = start-in-order bits in
     let c₁ = contextOf (0x61 ∷ []) in
@@ -215,11 +215,11 @@ edge-table t z bits =
     let e = saved-is t z bits (contextOf []) 0 start (0x62 ∷ 0x63 ∷ []) (omega arith) refl in
     record {
       no-bytes = λ (last : Bool). ap (λ (f : Fed). f .state .front .«non_ascii_seen») (first-is t z bits [] (omega arith) last);
-      saved-singly = ap (λ (s : State). bytesOf (s .front .context)) (ap (λ (s : State). after t s (0x63 ∷ [])) (ap (λ (s : State). after t s (0x62 ∷ [])) e₁ ∙ e₂) ∙ e₃);
+      saved-singly = ap (λ (s : State). bytesOf (s .front .context)) (ap (λ (s : State). stateAfter t s (0x63 ∷ [])) (ap (λ (s : State). stateAfter t s (0x62 ∷ [])) e₁ ∙ e₂) ∙ e₃);
       from-1 = first-as t z bits _ _ (omega arith) refl;
       saved-then =
           subst (λ (s : State). FedAs t s (0x61 ∷ 0xE9 ∷ []) (0x62 ∷ 0x63 ∷ []) (0x61 ∷ 0xE9 ∷ [])) (sym e)
-          (fed-as t (saving bits c 2) (0x61 ∷ 0xE9 ∷ []) (saving-fit t z bits c 2 o (0x61 ∷ 0xE9 ∷ []) (omega arith)) _ _ refl);
+          (fed-as t (saving bits c 2) (0x61 ∷ 0xE9 ∷ []) (saving-passed t z bits c 2 o (0x61 ∷ 0xE9 ∷ []) (omega arith)) _ _ refl);
       from-2 = first-as t z bits _ _ (omega arith) refl;
       escape-flag = λ (last : Bool). ap (λ (f : Fed). f .state .front .«esc_seen») (first-is t z bits (0x61 ∷ 0x62 ∷ 0x63 ∷ 0x64 ∷ 0x1B ∷ []) (omega arith) last);
       utf-8-ed-9f-bf = utf-8-leaves t z bits _ _ (omega arith) refl _ (utf-8-edges.ed-9f-bf (pos 0));

@@ -9,10 +9,10 @@ use borrow.Author.Tests.{le-ltb}
 use lib.IntN.{ℤ, pos, _+ℤ_, +ℤ-idl, +ℤ-idr, +ℤ-assoc, +ℤ-comm}
 use lib.ListN.{getD}
 use Rattle.laws.specs.Tests.{picked}
-use Rattle.laws.specs.Run.{Outcome, live, plus, plus-plus, feed, run, run-plus}
+use Rattle.laws.specs.Run.{Outcome, live, plus, plus-plus, withByte, run, run-plus}
 use Rattle.laws.specs.Still.{Lives}
 use Rattle.octets.specs.Octets.{between}
-use Rattle.laws.specs.Handler.{after as lead-after}
+use Rattle.laws.specs.Handler.{varsOf}
 use Rattle.pairs.specs.Pairs.{isLead, decoded}
 use Rattle.pairs.specs.Standard.{first}
 use Rattle.pairs.specs.Events.{eventOf}
@@ -23,7 +23,7 @@ use Rattle.pairs.specs.declared.Held.{Held}
 use Rattle.pairs.specs.declared.Held.the-variants.{Nothing, Score}
 use Rattle.euckr_decoder.specs.Standard.{isTrail, layout, pointerOf, isMapped, pointsOf, pairOf, decodeOf}
 use Rattle.euckr_decoder.specs.StandardLaws.{mapped-pair}
-use Rattle.euckr.specs.Scoring.{extraOf, isEuc, isHangul, hangulAfter, longOf, scored, holdsOf, aroundOf, innerOf, outerOf, hangulOf, otherOf, unitOf, extensionOf, after, strayOf, errorOf, freshOf, Lent, lent, stepOf}
+use Rattle.euckr.specs.Scoring.{extraOf, isEuc, isHangul, hangulAfter, longOf, scored, holdsOf, aroundOf, innerOf, outerOf, hangulOf, otherOf, unitOf, extensionOf, afterByte, strayOf, errorOf, fresh, Lent, lent, stepOf}
 use Rattle.euckr.specs.Ways.{step-on}
 use Rattle.euckr.specs.declared.EucKr.{EucKr}
 use Rattle.euckr.specs.declared.LatinKorean.{LatinKorean}
@@ -144,12 +144,12 @@ module _ (t : Lent) where
     pair-decoded : decoded 0 (Point unit) ≡ decodeOf (t .index) lead b
     pair-decoded = pair-point t lead b (pair .a-lead) (pair .a-trail) (hangul-mapped unit (pair .a-hangul))
 
-    trail-step : (m : EucKr) → stepOf t (waiting m lead) b ≡ after 0 b (hangulOf (t .scale) (waiting m lead) (t .extras) unit b)
+    trail-step : (m : EucKr) → stepOf t (waiting m lead) b ≡ afterByte 0 b (hangulOf (t .scale) (waiting m lead) (t .extras) unit b)
     trail-step m =
-        sym (step-on t (waiting m lead) b (decoded 0 (Point unit)) pair-decoded (Point unit) refl) ∙ ap (after 0 b) (unit-hangul (t .scale) (t .extras) (waiting m lead) unit b (pair .a-hangul))
+        sym (step-on t (waiting m lead) b (decoded 0 (Point unit)) pair-decoded (Point unit) refl) ∙ ap (afterByte 0 b) (unit-hangul (t .scale) (t .extras) (waiting m lead) unit b (pair .a-hangul))
 
-    pair-run : (m : EucKr) (s : ℤ) (bs : List ℕ) → m .lead ≡ 0 → run (stepOf t) (live m s) (lead ∷ b ∷ bs) ≡ run (stepOf t) (plus (s +ℤ pos 0) (after 0 b (hangulOf (t .scale) (waiting m lead) (t .extras) unit b))) bs
-    unfolding run feed plus
+    pair-run : (m : EucKr) (s : ℤ) (bs : List ℕ) → m .lead ≡ 0 → run (stepOf t) (live m s) (lead ∷ b ∷ bs) ≡ run (stepOf t) (plus (s +ℤ pos 0) (afterByte 0 b (hangulOf (t .scale) (waiting m lead) (t .extras) unit b))) bs
+    unfolding run withByte plus
     pair-run m s bs z = rw (lead-step m lead z (pair .a-lead), trail-step m)
 
   -- ---- a word of Hangul: what the long-word weight adds to it
@@ -169,7 +169,7 @@ module _ (t : Lent) where
     abbrev score : ℤ
     score = s +ℤ pos 0 +ℤ plain .gain
 
-    one-more : plus (s +ℤ pos 0) (after 0 b (hangulOf (t .scale) (waiting m lead) (t .extras) (unit lead b pair) b)) ≡ plus grown (live next score)
+    one-more : plus (s +ℤ pos 0) (afterByte 0 b (hangulOf (t .scale) (waiting m lead) (t .extras) (unit lead b pair) b)) ≡ plus grown (live next score)
     unfolding plus
     one-more = rw (hangul-more (t .scale) (waiting m lead) (t .extras) (unit lead b pair) b) (ap (live next) (swap (s +ℤ pos 0) grown (plain .gain)))
 
@@ -213,25 +213,25 @@ five-zeros : (x : ℤ) → pos 0 +ℤ (pos 0 +ℤ (pos 0 +ℤ (pos 0 +ℤ (pos 0
 five-zeros x = +ℤ-idl _ ∙ (+ℤ-idl _ ∙ (+ℤ-idl _ ∙ (+ℤ-idl _ ∙ +ℤ-idl x)))
 
 module _ (t : Lent) (bs : List ℕ) where
-  pub five : Word (t .index) 5 bs → run (stepOf t) (live freshOf (pos 0)) bs ≡ plus (pos 0) (run (stepOf (shortWords t)) (live freshOf (pos 0)) bs)
+  pub five : Word (t .index) 5 bs → run (stepOf t) (live fresh (pos 0)) bs ≡ plus (pos 0) (run (stepOf (shortWords t)) (live fresh (pos 0)) bs)
   unfolding longsOf longOf
-  five w = word-run t 5 bs w freshOf (pos 0) refl
+  five w = word-run t 5 bs w fresh (pos 0) refl
 
-  pub six : Word (t .index) 6 bs → run (stepOf t) (live freshOf (pos 0)) bs ≡ plus (t .scale .long) (run (stepOf (shortWords t)) (live freshOf (pos 0)) bs)
+  pub six : Word (t .index) 6 bs → run (stepOf t) (live fresh (pos 0)) bs ≡ plus (t .scale .long) (run (stepOf (shortWords t)) (live fresh (pos 0)) bs)
   unfolding longsOf longOf
   six w =
       let l = t .scale .long in
-      word-run t 6 bs w freshOf (pos 0) refl ∙ ap (λ (z : ℤ). plus z (run (stepOf (shortWords t)) (live freshOf (pos 0)) bs)) (five-zeros (l +ℤ pos 0) ∙ +ℤ-idr l)
+      word-run t 6 bs w fresh (pos 0) refl ∙ ap (λ (z : ℤ). plus z (run (stepOf (shortWords t)) (live fresh (pos 0)) bs)) (five-zeros (l +ℤ pos 0) ∙ +ℤ-idr l)
 
-  pub seven : Word (t .index) 7 bs → run (stepOf t) (live freshOf (pos 0)) bs ≡ plus (t .scale .long +ℤ t .scale .long) (run (stepOf (shortWords t)) (live freshOf (pos 0)) bs)
+  pub seven : Word (t .index) 7 bs → run (stepOf t) (live fresh (pos 0)) bs ≡ plus (t .scale .long +ℤ t .scale .long) (run (stepOf (shortWords t)) (live fresh (pos 0)) bs)
   unfolding longsOf longOf
   seven w =
       let l = t .scale .long in
-      word-run t 7 bs w freshOf (pos 0) refl ∙ ap (λ (z : ℤ). plus z (run (stepOf (shortWords t)) (live freshOf (pos 0)) bs)) (five-zeros (l +ℤ (l +ℤ pos 0)) ∙ ap (λ (z : ℤ). l +ℤ z) (+ℤ-idr l))
+      word-run t 7 bs w fresh (pos 0) refl ∙ ap (λ (z : ℤ). plus z (run (stepOf (shortWords t)) (live fresh (pos 0)) bs)) (five-zeros (l +ℤ (l +ℤ pos 0)) ∙ ap (λ (z : ℤ). l +ℤ z) (+ℤ-idr l))
 
 -- a pair that ends in 81 and then FF alone: the extension weight twice, for the rule looks at the byte before, not at a lead
 pub after-81-ff : (t : Lent) (euc : Bool) (prev : LatinKorean) (word : ℕ) (held : Held) → stepOf t (record { lead = 0; «prev_byte» = 0x81; «prev_was_euc_range» = euc; prev = prev; «current_word_len» = word; held = held }) 0xFF ≡ live (record { lead = 0; «prev_byte» = 0xFF; «prev_was_euc_range» = false; prev = Other; «current_word_len» = 0; held = Nothing }) (t .scale .extension +ℤ t .scale .extension)
-unfolding stepOf decodeOf first lead-after eventOf errorOf strayOf extensionOf
+unfolding stepOf decodeOf first varsOf eventOf errorOf strayOf extensionOf
 after-81-ff t euc prev word held = refl
 
 -- ---- states that no stream leads to, and what the rules' widths take in
@@ -240,11 +240,11 @@ unfolding hangulOf
 hangul-outside w m extras u b f = rw f
 
 -- a lead (B0) whose range flag is false, then a byte (A1) that makes a Hangul with it: it scores as one outside the EUC range
-pub flag-false : (t : Lent) (m : EucKr) (lead b : ℕ) → m .lead ≡ lead → m .«prev_was_euc_range» ≡ false → HangulPair (t .index) lead b → stepOf t m b ≡ after 0 b (outerOf (t .scale) m)
+pub flag-false : (t : Lent) (m : EucKr) (lead b : ℕ) → m .lead ≡ lead → m .«prev_was_euc_range» ≡ false → HangulPair (t .index) lead b → stepOf t m b ≡ afterByte 0 b (outerOf (t .scale) m)
 flag-false t m lead b z f pair =
     let u = getD (t .index) (pointerOf lead b) 0 in
     sym (step-on t m b (decoded 0 (Point u)) (pair-decoded t lead b pair ∙ ap (λ (k : ℕ). decodeOf (t .index) k b) (sym z)) (Point u) refl)
-    ∙ ap (after 0 b) (unit-hangul (t .scale) (t .extras) m u b (pair .a-hangul) ∙ hangul-outside (t .scale) m (t .extras) u b f)
+    ∙ ap (afterByte 0 b) (unit-hangul (t .scale) (t .extras) m u b (pair .a-hangul) ∙ hangul-outside (t .scale) m (t .extras) u b f)
 
 unit-private : (w : Scale) (extras : List ℤ) (m : EucKr) (u b : ℕ) → between 0xE000 0xF8FF u ≡ true → unitOf w extras m u b ≡ otherOf m (w .other)
 unfolding unitOf
@@ -256,7 +256,7 @@ private-mapped : (u : ℕ) → between 0xE000 0xF8FF u ≡ true → isMapped u �
 private-mapped u e = let h = range-true 0xE000 0xF8FF u e in rw (above 0x80 0xD7FF u (omega arith), inside 0xE000 0xFFFF u (omega arith) (omega arith))
 
 -- a pair that the index maps to private use scores as other; the private-use weight is for unmapped pairs
-pub private-use : (t : Lent) (m : EucKr) (b : ℕ) → isLead (m .lead) ≡ true → isTrail b ≡ true → between 0xE000 0xF8FF (getD (t .index) (pointerOf (m .lead) b) 0) ≡ true → stepOf t m b ≡ after 0 b (otherOf m (t .scale .other))
+pub private-use : (t : Lent) (m : EucKr) (b : ℕ) → isLead (m .lead) ≡ true → isTrail b ≡ true → between 0xE000 0xF8FF (getD (t .index) (pointerOf (m .lead) b) 0) ≡ true → stepOf t m b ≡ afterByte 0 b (otherOf m (t .scale .other))
 private-use t m b l r e =
     let u = getD (t .index) (pointerOf (m .lead) b) 0 in
-    sym (step-on t m b (decoded 0 (Point u)) (pair-point t (m .lead) b l r (private-mapped u e)) (Point u) refl) ∙ ap (after 0 b) (unit-private (t .scale) (t .extras) m u b e)
+    sym (step-on t m b (decoded 0 (Point u)) (pair-point t (m .lead) b l r (private-mapped u e)) (Point u) refl) ∙ ap (afterByte 0 b) (unit-private (t .scale) (t .extras) m u b e)

@@ -23,7 +23,7 @@ use Rattle.laws.specs.Limit.{limit, room}
 use Rattle.weights.specs.Weights.{term, perByte}
 use Rattle.lengths.specs.Lengths.{weightCount, eucKrCount, extraCount}
 use Rattle.euckr_decoder.specs.Standard.{layout, pointsOf, decodeOf}
-use Rattle.euckr.specs.Scoring.{scaleOf, extraOf, isEuc, isHangul, isHanja, scored, holdsOf, letterOf, innerOf, outerOf, hangulOf, hanjaOf, otherOf, unitOf, isUserPair, isMacSymbol, isLone, extends, extensionOf, after, strayOf, errorOf, onEvent, Lent, lent, stepOf}
+use Rattle.euckr.specs.Scoring.{scaleOf, extraOf, isEuc, isHangul, isHanja, scored, holdsOf, letterOf, innerOf, outerOf, hangulOf, hanjaOf, otherOf, unitOf, isUserPair, isMacSymbol, isLone, extends, extensionOf, afterByte, strayOf, errorOf, onEvent, Lent, lent, stepOf}
 use Rattle.euckr.specs.EucKr.{Sound, soundB, SmallScale, Slight, ranAs, readyB, Ready, ranOf, closeOf, closedOf}
 use Rattle.euckr.specs.Ways.{FewTerms, letter-small, hangul-small, hanja-small, other-small}
 use Rattle.euckr.specs.declared.EucKr.{EucKr}
@@ -71,65 +71,65 @@ unfolding closedOf
 closed-ready m s = if-fit _ _ _ _ _ (true-sound room m s)
 
 -- ---- a byte leaves a record that EUC-KR can hold, with a word at most one longer
-pub record Kept (n : ℕ) (s : Scored) : Type 0 where
+pub record Fair (n : ℕ) (s : Scored) : Type 0 where
   pub word-most : s .word ≤ n + 1
   pub held-small : SmallHeld (s .held)
 
-plain-kept : (n : ℕ) (k : LatinKorean) (g : ℤ) → Kept n (scored k 0 Nothing g)
-plain-kept n k g = record { word-most = omega arith; held-small = omega arith }
+plain-fair : (n : ℕ) (k : LatinKorean) (g : ℤ) → Fair n (scored k 0 Nothing g)
+plain-fair n k g = record { word-most = omega arith; held-small = omega arith }
 
-after-sound : (n lead b : ℕ) (s : Scored) → isLeadOrNone lead ≡ true → Kept n s → Holds (Sound (n + 1)) (after lead b s)
+after-sound : (n lead b : ℕ) (s : Scored) → isLeadOrNone lead ≡ true → Fair n s → Holds (Sound (n + 1)) (afterByte lead b s)
 after-sound n lead b s e k = record { lead-fits = e; word-most = k .word-most; held-small = k .held-small }
 
 module _ (w : Scale) (small : SmallScale w) (n : ℕ) (m : EucKr) (most : m .«current_word_len» ≤ n) where
-  grown-kept : (k : LatinKorean) (g : ℤ) → Kept n (scored k (m .«current_word_len» + 1) Nothing g)
-  grown-kept k g = record { word-most = omega arith; held-small = omega arith }
+  grown-fair : (k : LatinKorean) (g : ℤ) → Fair n (scored k (m .«current_word_len» + 1) Nothing g)
+  grown-fair k g = record { word-most = omega arith; held-small = omega arith }
 
-  letter-kept : Kept n (letterOf w m)
+  letter-fair : Fair n (letterOf w m)
   unfolding letterOf
-  letter-kept = plain-kept n AsciiLetter _
+  letter-fair = plain-fair n AsciiLetter _
 
-  hangul-kept : (extras : List ℤ) (u b : ℕ) → Kept n (hangulOf w m extras u b)
+  hangul-fair : (extras : List ℤ) (u b : ℕ) → Fair n (hangulOf w m extras u b)
   unfolding hangulOf innerOf outerOf
-  hangul-kept extras u b =
-      picked (Kept n) (m .«prev_was_euc_range» && isEuc b) (grown-kept Hangul _)
-      (picked (Kept n) (holdsOf m) (record { word-most = omega arith; held-small = small .outer }) (grown-kept Hangul _))
+  hangul-fair extras u b =
+      picked (Fair n) (m .«prev_was_euc_range» && isEuc b) (grown-fair Hangul _)
+      (picked (Fair n) (holdsOf m) (record { word-most = omega arith; held-small = small .outer }) (grown-fair Hangul _))
 
-  hanja-kept : (own : ℤ) → Kept n (hanjaOf w m own)
+  hanja-fair : (own : ℤ) → Fair n (hanjaOf w m own)
   unfolding hanjaOf
-  hanja-kept own = grown-kept Hanja _
+  hanja-fair own = grown-fair Hanja _
 
-  other-kept : (own : ℤ) → Kept n (otherOf m own)
+  other-fair : (own : ℤ) → Fair n (otherOf m own)
   unfolding otherOf
-  other-kept own = plain-kept n Other _
+  other-fair own = plain-fair n Other _
 
-  unit-kept : (extras : List ℤ) (u b : ℕ) → Kept n (unitOf w extras m u b)
+  unit-fair : (extras : List ℤ) (u b : ℕ) → Fair n (unitOf w extras m u b)
   unfolding unitOf
-  unit-kept extras u b =
-      picked (Kept n) (letter u) letter-kept
-      (picked (Kept n) (isHangul u) (hangul-kept extras u b)
-      (picked (Kept n) (isHanja u) (hanja-kept (w .hanja))
-      (picked (Kept n) (ascii u) (plain-kept n Other (pos 0)) (other-kept (w .other)))))
+  unit-fair extras u b =
+      picked (Fair n) (letter u) letter-fair
+      (picked (Fair n) (isHangul u) (hangul-fair extras u b)
+      (picked (Fair n) (isHanja u) (hanja-fair (w .hanja))
+      (picked (Fair n) (ascii u) (plain-fair n Other (pos 0)) (other-fair (w .other)))))
 
-  extension-kept : (b : ℕ) → Kept n (extensionOf w b)
+  extension-fair : (b : ℕ) → Fair n (extensionOf w b)
   unfolding extensionOf
-  extension-kept b =
-      picked (Kept n) (isLone b) (plain-kept n Other _)
-      (picked (Kept n) (letter b) (plain-kept n AsciiLetter _) (plain-kept n Other _))
+  extension-fair b =
+      picked (Fair n) (isLone b) (plain-fair n Other _)
+      (picked (Fair n) (letter b) (plain-fair n AsciiLetter _) (plain-fair n Other _))
 
   module _ (held : SmallHeld (m .held)) (lead b : ℕ) (fits : isLeadOrNone lead ≡ true) where
     error-sound : (k : ℕ) → Holds (Sound (n + 1)) (errorOf w m lead b k)
     unfolding errorOf strayOf
     error-sound k =
-        picked (Holds (Sound (n + 1))) (isUserPair (m .«prev_byte») b) (after-sound n lead b (hanjaOf w m (w .pua)) fits (hanja-kept (w .pua)))
-        (picked (Holds (Sound (n + 1))) (isMacSymbol (m .«prev_byte») b) (after-sound n lead b (otherOf m (w .mac)) fits (other-kept (w .mac)))
-        (picked (Holds (Sound (n + 1))) (extends (m .«prev_byte») b) (after-sound n lead b (extensionOf w b) fits (extension-kept b))
-        (picked (Holds (Sound (n + 1))) (eqb k 1 && isLone b) (after-sound n lead b (scored Other 0 Nothing (w .extension)) fits (plain-kept n Other _)) tt)))
+        picked (Holds (Sound (n + 1))) (isUserPair (m .«prev_byte») b) (after-sound n lead b (hanjaOf w m (w .pua)) fits (hanja-fair (w .pua)))
+        (picked (Holds (Sound (n + 1))) (isMacSymbol (m .«prev_byte») b) (after-sound n lead b (otherOf m (w .mac)) fits (other-fair (w .mac)))
+        (picked (Holds (Sound (n + 1))) (extends (m .«prev_byte») b) (after-sound n lead b (extensionOf w b) fits (extension-fair b))
+        (picked (Holds (Sound (n + 1))) (eqb k 1 && isLone b) (after-sound n lead b (scored Other 0 Nothing (w .extension)) fits (plain-fair n Other _)) tt)))
 
     event-sound : (extras : List ℤ) (e : Event) → Holds (Sound (n + 1)) (onEvent w m extras lead b e)
     event-sound extras Pending = record { lead-fits = fits; word-most = omega arith; held-small = held }
-    event-sound extras (Point p) = after-sound n lead b (unitOf w extras m p b) fits (unit-kept extras p b)
-    event-sound extras (Two p q) = after-sound n lead b (unitOf w extras m p b) fits (unit-kept extras p b)
+    event-sound extras (Point p) = after-sound n lead b (unitOf w extras m p b) fits (unit-fair extras p b)
+    event-sound extras (Two p q) = after-sound n lead b (unitOf w extras m p b) fits (unit-fair extras p b)
     event-sound extras (Error k) = error-sound k
 
 -- ---- a byte adds at most five terms

@@ -17,7 +17,7 @@ use Rattle.pairs.specs.declared.Event.{Event}
 use Rattle.pairs.specs.declared.Event.the-variants.{Pending, Point, Two, Error}
 use Rattle.pairs.specs.declared.Held.the-variants.{Nothing, Score}
 use Rattle.euckr_decoder.specs.Standard.{decodeOf}
-use Rattle.euckr.specs.Scoring.{isEuc, isHangul, isHanja, isAfterHangul, scored, holdsOf, letterOf, aroundOf, innerOf, outerOf, hangulOf, hanjaOf, otherOf, unitOf, isUserPair, isMacSymbol, isLone, extends, extensionOf, after, strayOf, errorOf, onEvent, Lent, stepOf}
+use Rattle.euckr.specs.Scoring.{isEuc, isHangul, isHanja, isAfterHangul, scored, holdsOf, letterOf, aroundOf, innerOf, outerOf, hangulOf, hanjaOf, otherOf, unitOf, isUserPair, isMacSymbol, isLone, extends, extensionOf, afterByte, strayOf, errorOf, onEvent, Lent, stepOf}
 use Rattle.euckr.specs.EucKr.{closeOf}
 use Rattle.euckr.specs.declared.EucKr.{EucKr}
 use Rattle.euckr.specs.declared.LatinKorean.{LatinKorean}
@@ -77,7 +77,7 @@ module _ (w : Scale) (m : EucKr) where
   WhyOut v (none d) = Unit {0}
   WhyOut v (live n g) = (k : ℤ) → n .held ≡ Score k → ((v ≡ Pending) × (m .held ≡ Score k)) ⊎ Why w m k
 
-  why-after : (v : Event) (lead b : ℕ) (s : Scored) → Whys s → WhyOut v (after lead b s)
+  why-after : (v : Event) (lead b : ℕ) (s : Scored) → Whys s → WhyOut v (afterByte lead b s)
   unfolding Whys WhyOut
   why-after v lead b s h k e = inr (h k e)
 

@@ -147,30 +147,30 @@ extensionOf w b =
     (cond (letter b) (scored AsciiLetter 0 Nothing (w .extension)) (scored Other 0 Nothing (w .extension)))
 
 -- the record after byte b
-abbrev pub after : ℕ → ℕ → Scored → Outcome EucKr
-after lead b s = live (record { lead = lead; «prev_byte» = b; «prev_was_euc_range» = isEuc b; prev = s .prev; «current_word_len» = s .word; held = s .held }) (s .gain)
+abbrev pub afterByte : ℕ → ℕ → Scored → Outcome EucKr
+afterByte lead b s = live (record { lead = lead; «prev_byte» = b; «prev_was_euc_range» = isEuc b; prev = s .prev; «current_word_len» = s .word; held = s .held }) (s .gain)
 
 -- a lead changes nothing else
 abbrev pub pendingOf : EucKr → ℕ → ℕ → Outcome EucKr
-pendingOf m lead b = after lead b (scored (m .prev) (m .«current_word_len») (m .held) (pos 0))
+pendingOf m lead b = afterByte lead b (scored (m .prev) (m .«current_word_len») (m .held) (pos 0))
 
 module _ (w : Scale) (m : EucKr) where
   -- with the byte before an extension, or an extension that is no lead alone, or the machine drops out
   unfoldable pub strayOf : ℕ → ℕ → ℕ → Outcome EucKr
   strayOf lead b length =
-      cond (extends (m .«prev_byte») b) (after lead b (extensionOf w b))
-      (cond (eqb length 1 && isLone b) (after lead b (scored Other 0 Nothing (w .extension))) dropped)
+      cond (extends (m .«prev_byte») b) (afterByte lead b (extensionOf w b))
+      (cond (eqb length 1 && isLone b) (afterByte lead b (scored Other 0 Nothing (w .extension))) dropped)
 
   unfoldable pub errorOf : ℕ → ℕ → ℕ → Outcome EucKr
   errorOf lead b length =
-      cond (isUserPair (m .«prev_byte») b) (after lead b (hanjaOf w m (w .pua)))
-      (cond (isMacSymbol (m .«prev_byte») b) (after lead b (otherOf m (w .mac))) (strayOf lead b length))
+      cond (isUserPair (m .«prev_byte») b) (afterByte lead b (hanjaOf w m (w .pua)))
+      (cond (isMacSymbol (m .«prev_byte») b) (afterByte lead b (otherOf m (w .mac))) (strayOf lead b length))
 
   -- an event at byte b, with the decoder's lead after it. (The decoder yields no two code points; the Rust would look at the first)
   abbrev pub onEvent : List ℤ → ℕ → ℕ → Event → Outcome EucKr
   onEvent extras lead b Pending = pendingOf m lead b
-  onEvent extras lead b (Point point) = after lead b (unitOf w extras m point b)
-  onEvent extras lead b (Two p q) = after lead b (unitOf w extras m p b)
+  onEvent extras lead b (Point point) = afterByte lead b (unitOf w extras m point b)
+  onEvent extras lead b (Two p q) = afterByte lead b (unitOf w extras m p b)
   onEvent extras lead b (Error length) = errorOf lead b length
 
 -- ---- the machine
@@ -182,8 +182,8 @@ pub record Lent : Type 0 where
 abbrev pub lent : List ℕ → List ℤ → Scale → Lent
 lent index extras scale = record { index = index; extras = extras; scale = scale }
 
-abbrev pub freshOf : EucKr
-freshOf = record { lead = 0; «prev_byte» = 0; «prev_was_euc_range» = false; prev = Other; «current_word_len» = 0; held = Nothing }
+abbrev pub fresh : EucKr
+fresh = record { lead = 0; «prev_byte» = 0; «prev_was_euc_range» = false; prev = Other; «current_word_len» = 0; held = Nothing }
 
 unfoldable pub stepOf : Lent → EucKr → ℕ → Outcome EucKr
 stepOf t m b = onEvent (t .scale) m (t .extras) (decodeOf (t .index) (m .lead) b .lead) b (decodeOf (t .index) (m .lead) b .event)

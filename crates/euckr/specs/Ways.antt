@@ -19,7 +19,7 @@ use Rattle.pairs.specs.declared.Event.{Event}
 use Rattle.pairs.specs.declared.Held.the-variants.{Nothing}
 use Rattle.weights.specs.Weights.{term, perByte}
 use Rattle.euckr_decoder.specs.Standard.{decodeOf}
-use Rattle.euckr.specs.Scoring.{extraOf, isEuc, hangulAfter, hanjaAfter, letterAfter, longOf, scored, holdsOf, letterOf, aroundOf, innerOf, outerOf, hangulOf, hanjaOf, otherOf, isExtension, isLone, extends, extensionOf, after, strayOf, onEvent, Lent, stepOf}
+use Rattle.euckr.specs.Scoring.{extraOf, isEuc, hangulAfter, hanjaAfter, letterAfter, longOf, scored, holdsOf, letterOf, aroundOf, innerOf, outerOf, hangulOf, hanjaOf, otherOf, isExtension, isLone, extends, extensionOf, afterByte, strayOf, onEvent, Lent, stepOf}
 use Rattle.euckr.specs.EucKr.{SmallScale}
 use Rattle.euckr.specs.declared.EucKr.{EucKr}
 use Rattle.euckr.specs.declared.LatinKorean.{LatinKorean}
@@ -165,11 +165,11 @@ and-no true = refl
 and-no false = refl
 
 module _ (w : Scale) (m : EucKr) (lead x length : ℕ) where
-  pub stray-extends : extends (m .«prev_byte») x ≡ true → after lead x (extensionOf w x) ≡ strayOf w m lead x length
+  pub stray-extends : extends (m .«prev_byte») x ≡ true → afterByte lead x (extensionOf w x) ≡ strayOf w m lead x length
   unfolding strayOf
   stray-extends e = rw e
 
-  pub stray-alone : extends (m .«prev_byte») x ≡ false → length ≡ 1 → isLone x ≡ true → after lead x (scored Other 0 Nothing (w .extension)) ≡ strayOf w m lead x length
+  pub stray-alone : extends (m .«prev_byte») x ≡ false → length ≡ 1 → isLone x ≡ true → afterByte lead x (scored Other 0 Nothing (w .extension)) ≡ strayOf w m lead x length
   unfolding strayOf
   stray-alone e p q = rw (e, eq-eqb length 1 p, q)
 

@@ -10,8 +10,8 @@ ghost use Rattle.pairs.specs.declared.Held.the-variants.{Nothing};
 ghost use Rattle.laws.specs.Limit.{limit, room};
 ghost use Rattle.weights.specs.Weights.{term, perByte};
 ghost use Rattle.lengths.specs.Lengths.{eucKrCount, extraCount};
-ghost use Rattle.euckr.specs.Scoring.{scaleOf, extraOf, isEuc, isHangul, isHanja, hangulAfter, hanjaAfter, letterAfter, longOf, holdsOf, scored, letterOf, aroundOf, innerOf, outerOf, hangulOf, hanjaOf, otherOf, unitOf, isUserPair, isMacLead, isMacSymbol, isExtension, isLone, extensionOf, after as afterOf, pendingOf, strayOf, errorOf, lent, freshOf, stepOf};
-ghost use Rattle.euckr.specs.EucKr.{Sound, soundB, SmallScale, outOf, ranAs, Slight, Small, Weighed, lentB, readyB, ranOf, closedOf};
+ghost use Rattle.euckr.specs.Scoring.{scaleOf, extraOf, isEuc, isHangul, isHanja, hangulAfter, hanjaAfter, letterAfter, longOf, holdsOf, scored, letterOf, aroundOf, innerOf, outerOf, hangulOf, hanjaOf, otherOf, unitOf, isUserPair, isMacLead, isMacSymbol, isExtension, isLone, extensionOf, afterByte, pendingOf, strayOf, errorOf, lent, fresh, stepOf};
+ghost use Rattle.euckr.specs.EucKr.{Sound, soundB, SmallScale, outOf, ranAs, Slight, Bounded, Weighed, lentB, readyB, ranOf, closedOf};
 ghost use Rattle.euckr.specs.declared.LatinKorean.the-variants.{Other};
 use pairs::Event;
 use pairs::Held;
@@ -187,7 +187,7 @@ impl EucKr {
     pub const EXTRAS: usize = lengths::EXTRAS;
 
     pub fn fresh() -> EucKr
-        ensures { λ r. ⌜ r ≡ freshOf ⌝ }
+        ensures { λ r. ⌜ r ≡ fresh ⌝ }
     {
         EucKr {
             lead: 0,
@@ -440,8 +440,8 @@ fn extension(b: u8, w: Scale) -> Scored
 }
 
 // The record after a byte.
-fn after(lead: u8, b: u8, s: Scored) -> Stepped
-    ensures { λ r. ⌜ outOf r ≡ afterOf lead b s ⌝ }
+fn after_byte(lead: u8, b: u8, s: Scored) -> Stepped
+    ensures { λ r. ⌜ outOf r ≡ afterByte lead b s ⌝ }
 {
     let prev = s.prev;
     let held = s.held;
@@ -466,15 +466,15 @@ impl EucKr {
     {
         if is_extension(self.prev_byte) {
             if b < 0x80 {
-                return after(lead, b, extension(b, w));
+                return after_byte(lead, b, extension(b, w));
             }
             if is_lone(b) {
-                return after(lead, b, extension(b, w));
+                return after_byte(lead, b, extension(b, w));
             }
         }
         if size == 1 {
             if is_lone(b) {
-                return after(lead, b, plain(w.extension));
+                return after_byte(lead, b, plain(w.extension));
             }
         }
         Stepped::Dropped
@@ -487,10 +487,10 @@ impl EucKr {
         ensures { λ r. ⌜ outOf r ≡ errorOf w self lead b size ⌝ }
     {
         if is_user_pair(self.prev_byte, b) {
-            return after(lead, b, self.hanja(w.pua, w));
+            return after_byte(lead, b, self.hanja(w.pua, w));
         }
         if is_mac_symbol(self.prev_byte, b) {
-            return after(lead, b, self.other(w.mac));
+            return after_byte(lead, b, self.other(w.mac));
         }
         self.stray(lead, b, size, w)
     }
@@ -526,20 +526,20 @@ impl EucKr {
         let event = d.event;
         match event {
             Event::Pending => self.pending(d.lead, b),
-            Event::Point(point) => after(d.lead, b, self.unit(point, b, extras, w)),
-            Event::Two(first, _) => after(d.lead, b, self.unit(first, b, extras, w)),
+            Event::Point(point) => after_byte(d.lead, b, self.unit(point, b, extras, w)),
+            Event::Two(first, _) => after_byte(d.lead, b, self.unit(first, b, extras, w)),
             Event::Error(size) => self.error(d.lead, b, size, w),
         }
     }
 
-    fn feed(self, part: &[u8], index: &[u32], extras: &[i16], w: Scale) -> Ran
+    fn run_fit(self, part: &[u8], index: &[u32], extras: &[i16], w: Scale) -> Ran
         requires { ⌜ SmallScale w ⌝ }
         requires { ⌜ Sound room self ⌝ }
         requires { ⌜ length (now part) ≤ limit ⌝ }
         requires { ⌜ length (now index) ≡ eucKrCount ⌝ }
         requires { ⌜ length (now extras) ≡ extraCount ⌝ }
         ensures { λ r. ⌜ r ≡ ranAs (run (stepOf (lent (now (index .entry)) (now (extras .entry)) w)) (alive self) (now (part .entry))) ⌝ }
-        ensures { λ r. ⌜ Small (perByte * length (now (part .entry))) r ⌝ }
+        ensures { λ r. ⌜ Bounded (perByte * length (now (part .entry))) r ⌝ }
     {
         let mut m = self;
         let mut s: i64 = 0;
@@ -569,11 +569,11 @@ impl EucKr {
 
     pub fn run(self, part: &[u8], index: &[u32], extras: &[i16], weights: &[i32]) -> Ran
         ensures { λ r. ⌜ r ≡ ranOf (now (index .entry)) (now (extras .entry)) (now (weights .entry)) self (now (part .entry)) ⌝ }
-        ensures { λ r. ⌜ Small (perByte * length (now (part .entry))) r ⌝ }
+        ensures { λ r. ⌜ Bounded (perByte * length (now (part .entry))) r ⌝ }
         ensures { λ r. ⌜ Weighed (now (weights .entry)) r ⌝ }
     {
         if is_ready(self, part, index, extras, weights) {
-            return self.feed(part, index, extras, Scale::read(weights));
+            return self.run_fit(part, index, extras, Scale::read(weights));
         }
         Ran::Unfit
     }

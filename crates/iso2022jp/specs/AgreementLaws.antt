@@ -9,8 +9,8 @@ use native.Mathlib.Omega.{arith}
 use lib.Dec.{eqb}
 use borrow.Author.Tests.{eqb-true}
 use Rattle.laws.specs.Tests.{either, through}
-use Rattle.laws.specs.Handler.{end-of-queue, byte, after}
-use Rattle.laws.specs.Validator.{Verdict, at-start, on, outcomeBy, decoded, decodes}
+use Rattle.laws.specs.Handler.{end-of-queue, byte, varsOf}
+use Rattle.laws.specs.Validator.{Verdict, at-start, on, outcomeBy, decodedBy, decodes}
 use Rattle.laws.specs.Run.{run, ended, alive, dropped}
 use Rattle.octets.specs.Octets.{between}
 use Rattle.octets.specs.BetweenLaws.{below, between-low, between-high}
@@ -118,7 +118,7 @@ pub fresh-agrees : fresh ≡ recordOf initial
 fresh-agrees = refl
 
 -- Over a whole stream, closed, the machine is what the Standard's decoder is up to its first error.
-pub stream-agrees : (index : List ℕ) (xs : List ℕ) → ended closeOf (run (stepOf index) (alive fresh) xs) ≡ outcomeOf (decoded (handler (indexedBy index)) initial xs)
+pub stream-agrees : (index : List ℕ) (xs : List ℕ) → ended closeOf (run (stepOf index) (alive fresh) xs) ≡ outcomeOf (decodedBy (handler (indexedBy index)) initial xs)
 stream-agrees index xs =
     decodes (handler (indexedBy index)) initial recordOf (stepOf index) closeOf (λ (d : Decoder) (r : Reached (indexedBy index) d). (λ (b : ℕ). step-agrees index d b, close-agrees index d)) initial xs at-start
 
@@ -133,7 +133,7 @@ HeldLead escape-start lead = Unit {0}
 HeldLead escape lead = (lead ≡ 0x24) ⊎ (lead ≡ 0x28)
 
 abbrev Held : Verdict Decoder → Type 0
-Held r = HeldLead (after r .decoder-state) (after r .lead)
+Held r = HeldLead (varsOf r .decoder-state) (varsOf r .lead)
 
 as-held : (o : OutputState) (lead : ℕ) → HeldLead (as-state o) lead
 as-held out-ascii lead = tt
@@ -146,12 +146,12 @@ module _ (indexed : ℕ → Bool) (out : OutputState) (lead : ℕ) (output : Boo
   OnByte st = Held (on-byte indexed st (variables st out lead output) b)
 
   set-held : (s : Set) → Held (after-set (lead ∷ b ∷ []) (variables escape out lead output) s)
-  unfolding after-set after
+  unfolding after-set varsOf
   set-held null = as-held out 0
   set-held (state o) = either Held output (λ e. as-held o 0) (λ e. as-held o 0)
 
   held : (st : DecoderState) → OnByte st
-  unfolding on-byte after
+  unfolding on-byte varsOf
   held ascii = either Held (eqb b 0x1B) (λ e. tt) (λ e. either Held (is-text b) (λ e. tt) (λ e. tt))
   held roman = either Held (eqb b 0x1B) (λ e. tt) (λ e. either Held (is-text b) (λ e. tt) (λ e. tt))
   held katakana = either Held (eqb b 0x1B) (λ e. tt) (λ e. either Held (between 0x21 0x5F b) (λ e. tt) (λ e. tt))

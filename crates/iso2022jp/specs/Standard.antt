@@ -50,8 +50,8 @@ abbrev pub to : DecoderState → Decoder → Decoder
 to state d = variables state (d .output-state) (d .lead) (d .output)
 
 -- output is set to false
-abbrev pub quiet : Decoder → Decoder
-quiet d = variables (d .decoder-state) (d .output-state) (d .lead) false
+abbrev pub output-false : Decoder → Decoder
+output-false d = variables (d .decoder-state) (d .output-state) (d .lead) false
 
 -- 00 to 7F, but not 0E, 0F and 1B
 abbrev pub is-text : ℕ → Bool
@@ -61,17 +61,17 @@ is-text b = between 0x00 0x7F b && not (isIn (0x0E ∷ 0x0F ∷ 0x1B ∷ []) b)
 abbrev pub in-ascii : Decoder → ℕ → Verdict Decoder
 in-ascii d b =
     cond (eqb b 0x1B) (continue (to escape-start d))
-    (cond (is-text b) (code-point tt (quiet d)) (error [] (quiet d)))
+    (cond (is-text b) (code-point tt (output-false d)) (error [] (output-false d)))
 
 abbrev pub in-katakana : Decoder → ℕ → Verdict Decoder
 in-katakana d b =
     cond (eqb b 0x1B) (continue (to escape-start d))
-    (cond (between 0x21 0x5F b) (code-point tt (quiet d)) (error [] (quiet d)))
+    (cond (between 0x21 0x5F b) (code-point tt (output-false d)) (error [] (output-false d)))
 
 abbrev pub in-lead-byte : Decoder → ℕ → Verdict Decoder
 in-lead-byte d b =
     cond (eqb b 0x1B) (continue (to escape-start d))
-    (cond (between 0x21 0x7E b) (continue (variables trail-byte (d .output-state) b false)) (error [] (quiet d)))
+    (cond (between 0x21 0x7E b) (continue (variables trail-byte (d .output-state) b false)) (error [] (output-false d)))
 
 -- the pointer into the index
 abbrev pub pointer : ℕ → ℕ → ℕ

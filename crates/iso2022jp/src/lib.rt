@@ -313,7 +313,7 @@ impl Iso2022Jp {
         }
     }
 
-    fn feed(self, part: &[u8], index: &[u32]) -> Ran
+    fn run_fit(self, part: &[u8], index: &[u32]) -> Ran
         requires { ⌜ Sound self × (length (now index) ≡ jisCount) ⌝ }
         ensures { λ r. ⌜ r ≡ ranAs (run (stepOf (now (index .entry))) (alive self) (now (part .entry))) ⌝ }
     {
@@ -341,7 +341,7 @@ impl Iso2022Jp {
         if self.is_sound() {
             if index.len() == lengths::JIS {
                 if part.len() <= lengths::MOST {
-                    return self.feed(part, index);
+                    return self.run_fit(part, index);
                 }
             }
         }

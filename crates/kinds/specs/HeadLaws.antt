@@ -27,7 +27,7 @@ use Rattle.logical.specs.HeadLaws.{logical-forgets}
 use Rattle.visual.specs.HeadLaws.{visual-forgets}
 use Rattle.utf8.specs.HeadLaws.{utf8-forgets}
 use Rattle.tables.specs.Own.{Own, own, lentTo}
-use Rattle.kinds.specs.Kinds.{freshIn, stepOf}
+use Rattle.kinds.specs.Kinds.{freshOf, stepOf}
 use Rattle.kinds.specs.Plain.{isShift, plain, Plain}
 use Rattle.kinds.specs.declared.machine.Machine.{Machine}
 use Rattle.kinds.specs.declared.machine.Machine.the-variants.{Utf8, Iso2022Jp, EucKr, Big5, Caseless, Logical, Visual, ArabicFrench}
@@ -62,8 +62,8 @@ module _ (o : Own) (p : Plain o) where
   plain-quiet : (b : ℕ) → plain b ≡ true → quietAt (lentTo o) b ≡ true
   plain-quiet b e = let a = plain-ascii b e in rw (a, p .no-255 b a, p .no-letter b a)
 
-  pub machine-forgets : (m : Machine) → Forgets plain (stepOf o) (freshIn m)
-  unfolding stepOf freshIn
+  pub machine-forgets : (m : Machine) → Forgets plain (stepOf o) (freshOf m)
+  unfolding stepOf freshOf
   machine-forgets (Utf8 m) = forgets-carried Utf8 (λ n b. refl) (forgets-less plain-ascii utf8-forgets)
   machine-forgets (Iso2022Jp m) = forgets-carried Iso2022Jp (λ n b. refl) (forgets-less plain-text (iso2022jp-forgets (o .index)))
   machine-forgets (EucKr m) = forgets-carried EucKr (λ n b. refl) (forgets-less plain-ascii (euckr-forgets (euckr.lent (o .index) (o .extras) (euckr.scaleOf (o .weights)))))

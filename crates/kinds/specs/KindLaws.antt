@@ -6,7 +6,7 @@ use Prim.Native.Nat.{ℕ}
 use lib.IntN.{ℤ}
 use Rattle.laws.specs.Carried.{carried, Holds, run-holds}
 use Rattle.laws.specs.Run.{Outcome, none, live, run}
-use Rattle.kinds.specs.Kinds.{kindOf, freshIn, stepOf, closeOf}
+use Rattle.kinds.specs.Kinds.{placeNumber, freshOf, stepOf, closeOf}
 use Rattle.kinds.specs.Sound.{takesSpace, reachOf}
 use Rattle.tables.specs.Own.{Own}
 use Rattle.kinds.specs.declared.machine.Machine.{Machine}
@@ -14,21 +14,21 @@ use Rattle.kinds.specs.declared.machine.Machine.the-variants.{Utf8, Iso2
 
 -- the same fresh machine, and so the same kind
 abbrev pub Alike : Machine → Machine → Type 0
-Alike m k = freshIn k ≡ freshIn m
+Alike m k = freshOf k ≡ freshOf m
 
-kind-fresh : (m : Machine) → kindOf (freshIn m) ≡ kindOf m
-unfolding freshIn
-kind-fresh (Utf8 m) = refl
-kind-fresh (Iso2022Jp m) = refl
-kind-fresh (EucKr m) = refl
-kind-fresh (Big5 m) = refl
-kind-fresh (Caseless m) = refl
-kind-fresh (Logical m) = refl
-kind-fresh (Visual m) = refl
-kind-fresh (ArabicFrench m) = refl
+place-fresh : (m : Machine) → placeNumber (freshOf m) ≡ placeNumber m
+unfolding freshOf
+place-fresh (Utf8 m) = refl
+place-fresh (Iso2022Jp m) = refl
+place-fresh (EucKr m) = refl
+place-fresh (Big5 m) = refl
+place-fresh (Caseless m) = refl
+place-fresh (Logical m) = refl
+place-fresh (Visual m) = refl
+place-fresh (ArabicFrench m) = refl
 
-pub fresh-alike : (m : Machine) → Alike m (freshIn m)
-unfolding freshIn
+pub fresh-alike : (m : Machine) → Alike m (freshOf m)
+unfolding freshOf
 fresh-alike (Utf8 m) = refl
 fresh-alike (Iso2022Jp m) = refl
 fresh-alike (EucKr m) = refl
@@ -38,11 +38,11 @@ fresh-alike (Logical m) = refl
 fresh-alike (Visual m) = refl
 fresh-alike (ArabicFrench m) = refl
 
-pub alike-kind : (m k : Machine) → Alike m k → kindOf k ≡ kindOf m
-alike-kind m k e = sym (kind-fresh k) ∙ (ap kindOf e ∙ kind-fresh m)
+pub alike-place : (m k : Machine) → Alike m k → placeNumber k ≡ placeNumber m
+alike-place m k e = sym (place-fresh k) ∙ (ap placeNumber e ∙ place-fresh m)
 
-space-fresh : (m : Machine) → takesSpace (freshIn m) ≡ takesSpace m
-unfolding freshIn
+space-fresh : (m : Machine) → takesSpace (freshOf m) ≡ takesSpace m
+unfolding freshOf
 space-fresh (Utf8 m) = refl
 space-fresh (Iso2022Jp m) = refl
 space-fresh (EucKr m) = refl
@@ -68,7 +68,7 @@ carried-alike wrap m f (live x s) = f x
 
 module _ (t : Own) where
   step-alike : (m : Machine) (b : ℕ) → Holds (Alike m) (stepOf t m b)
-  unfolding stepOf freshIn
+  unfolding stepOf freshOf
   step-alike (Utf8 m) b = carried-alike Utf8 (Utf8 m) (λ x. refl) _
   step-alike (Iso2022Jp m) b = carried-alike Iso2022Jp (Iso2022Jp m) (λ x. refl) _
   step-alike (EucKr m) b = carried-alike EucKr (EucKr m) (λ x. refl) _
@@ -86,7 +86,7 @@ module _ (t : Own) where
   run-alike m s xs = run-holds (stepOf t) (λ (n : ℕ). Alike m) (λ (n : ℕ) (k : Machine) (b : ℕ) (e : Alike m k). holds-alike m k e (stepOf t k b) (step-alike k b)) 0 (live m s) xs refl
 
   pub close-alike : (m : Machine) → Holds (Alike m) (closeOf t m)
-  unfolding closeOf freshIn
+  unfolding closeOf freshOf
   close-alike (Utf8 m) = carried-alike Utf8 (Utf8 m) (λ x. refl) _
   close-alike (Iso2022Jp m) = carried-alike Iso2022Jp (Iso2022Jp m) (λ x. refl) _
   close-alike (EucKr m) = carried-alike EucKr (EucKr m) (λ x. refl) _

@@ -38,26 +38,26 @@ use Rattle.kinds.specs.declared.machine.Ran.{Ran}
 use Rattle.kinds.specs.declared.machine.Ran.the-variants.{Live, Dropped, Unfit}
 
 -- the number of the place that holds machines of this kind
-abbrev pub kindOf : Machine → ℕ
-kindOf (Utf8 m) = 0
-kindOf (Iso2022Jp m) = 1
-kindOf (EucKr m) = 2
-kindOf (Big5 m) = 3
-kindOf (Caseless m) = 4
-kindOf (Logical m) = 5
-kindOf (Visual m) = 6
-kindOf (ArabicFrench m) = 7
+abbrev pub placeNumber : Machine → ℕ
+placeNumber (Utf8 m) = 0
+placeNumber (Iso2022Jp m) = 1
+placeNumber (EucKr m) = 2
+placeNumber (Big5 m) = 3
+placeNumber (Caseless m) = 4
+placeNumber (Logical m) = 5
+placeNumber (Visual m) = 6
+placeNumber (ArabicFrench m) = 7
 
 -- the fresh machine of the same kind
-unfoldable pub freshIn : Machine → Machine
-freshIn (Utf8 m) = Utf8 utf-8.fresh
-freshIn (Iso2022Jp m) = Iso2022Jp iso2022jp.fresh
-freshIn (EucKr m) = EucKr euckr-scoring.freshOf
-freshIn (Big5 m) = Big5 big5-scoring.freshOf
-freshIn (Caseless m) = Caseless caseless.freshOf
-freshIn (Logical m) = Logical logical.freshOf
-freshIn (Visual m) = Visual visual.freshOf
-freshIn (ArabicFrench m) = ArabicFrench arabicFrench.freshOf
+unfoldable pub freshOf : Machine → Machine
+freshOf (Utf8 m) = Utf8 utf-8.fresh
+freshOf (Iso2022Jp m) = Iso2022Jp iso2022jp.fresh
+freshOf (EucKr m) = EucKr euckr-scoring.fresh
+freshOf (Big5 m) = Big5 big5-scoring.fresh
+freshOf (Caseless m) = Caseless caseless.fresh
+freshOf (Logical m) = Logical logical.fresh
+freshOf (Visual m) = Visual visual.fresh
+freshOf (ArabicFrench m) = ArabicFrench arabicFrench.fresh
 
 -- ---- one byte
 unfoldable pub stepOf : Own → Machine → ℕ → Outcome Machine
@@ -148,10 +148,10 @@ closedOf o (Visual m) = ofVisual (visual.closedOf (lentTo o) m)
 closedOf o (ArabicFrench m) = ofArabicFrench (arabicFrench.closedOf (lentTo o) m)
 
 -- a live answer's change of the score is at most c in size
-abbrev pub Small : ℕ → Ran → Type 0
-Small c (Live m s) = natAbs s ≤ c
-Small c Dropped = Unit {0}
-Small c Unfit = Unit {0}
+abbrev pub Bounded : ℕ → Ran → Type 0
+Bounded c (Live m s) = natAbs s ≤ c
+Bounded c Dropped = Unit {0}
+Bounded c Unfit = Unit {0}
 
 -- a live answer of the two machines that hold scores came of weights of 32 bits
 abbrev pub WeighedIn : Machine → List ℤ → Type 0

@@ -57,7 +57,7 @@ use Rattle.utf8.specs.Utf8Laws as utf-8-laws
 use Rattle.utf8.specs.declared.Ran.{Ran as Utf8Ran}
 use Rattle.utf8.specs.declared.Ran.the-variants as utf-8-ran
 use Rattle.utf8.specs.declared.Utf8.{Utf8 as Utf8Record}
-use Rattle.kinds.specs.Kinds.{kindOf, stepOf, closeOf, ranAs, ofUtf8, ofIso2022Jp, ofEucKr, ofBig5, ofCaseless, ofLogical, ofVisual, ofArabicFrench, ranOf, closedOf, Small, WeighedIn, Weighed}
+use Rattle.kinds.specs.Kinds.{placeNumber, stepOf, closeOf, ranAs, ofUtf8, ofIso2022Jp, ofEucKr, ofBig5, ofCaseless, ofLogical, ofVisual, ofArabicFrench, ranOf, closedOf, Bounded, WeighedIn, Weighed}
 use Rattle.kinds.specs.Sound.{SoundFor}
 use Rattle.tables.specs.Own.{Own, lentTo, SizedAt}
 use Rattle.kinds.specs.declared.machine.Machine.{Machine}
@@ -162,7 +162,7 @@ iso2022jp-still m o = iso2022jp-still-in (m .state) m o
 module _ (t : Own) where
   -- ---- a stretch: what the code answers is the outcome of the run
   module _ (xs : List ℕ) (short : length xs ≤ limit) where
-    pub ran-fit : (m : Machine) → SizedAt (kindOf m) t → SoundFor limit limit m → ranOf t m xs ≡ ranAs (run (stepOf t) (live m (pos 0)) xs)
+    pub ran-fit : (m : Machine) → SizedAt (placeNumber m) t → SoundFor limit limit m → ranOf t m xs ≡ ranAs (run (stepOf t) (live m (pos 0)) xs)
     unfolding ranOf
     ran-fit (Utf8 m) z o =
         ap ofUtf8 (utf-8-laws.ran-ready m xs (record { sound = o; short = short })) ∙ (utf-8-answer (run utf-8.stepOf (live m (pos 0)) xs) (utf-8-laws.run-keeps m (pos 0) xs o) ∙ ap ranAs (sym (run-utf-8 t (pos 0) xs m)))
@@ -178,7 +178,7 @@ module _ (t : Own) where
     ran-fit (ArabicFrench m) z o = ap ofArabicFrench (arabicFrench-laws.ran-fit (lentTo t) m xs (record { sized = z; sound = arabicFrench-laws.sound-more limit room m (omega arith) (o .1); short = short })) ∙ (arabicFrench-answer _ ∙ ap ranAs (sym (run-arabicFrench t (pos 0) xs m)))
 
   -- ---- the end of the stream, after a stretch
-  pub closed-fit : (m : Machine) → SizedAt (kindOf m) t → SoundFor (2 * limit) (2 * limit) m → closedOf t m ≡ ranAs (closeOf t m)
+  pub closed-fit : (m : Machine) → SizedAt (placeNumber m) t → SoundFor (2 * limit) (2 * limit) m → closedOf t m ≡ ranAs (closeOf t m)
   unfolding closedOf closeOf
   closed-fit (Utf8 m) z o = ap ofUtf8 (utf-8-laws.closed-ready m o) ∙ utf-8-answer (utf-8.closeOf m) (utf-8-still m o)
   closed-fit (Iso2022Jp m) z o = ap ofIso2022Jp (iso2022jp-laws.closed-ready m o) ∙ iso2022jp-answer (iso2022jp.closeOf m) (iso2022jp-still m o)
@@ -191,60 +191,60 @@ module _ (t : Own) where
 
 -- ---- sizes and weights, as each kind's own answer has them
 module _ (c : ℕ) where
-  pub small-utf-8 : (r : Utf8Ran) → Small c (ofUtf8 r)
-  small-utf-8 (utf-8-ran.Live m) = omega arith
-  small-utf-8 utf-8-ran.Dropped = tt
-  small-utf-8 utf-8-ran.Unfit = tt
+  pub bounded-utf-8 : (r : Utf8Ran) → Bounded c (ofUtf8 r)
+  bounded-utf-8 (utf-8-ran.Live m) = omega arith
+  bounded-utf-8 utf-8-ran.Dropped = tt
+  bounded-utf-8 utf-8-ran.Unfit = tt
 
-  pub small-iso2022jp : (r : Iso2022JpRan) → Small c (ofIso2022Jp r)
-  small-iso2022jp (iso2022jp-ran.Live m) = omega arith
-  small-iso2022jp iso2022jp-ran.Dropped = tt
-  small-iso2022jp iso2022jp-ran.Unfit = tt
+  pub bounded-iso2022jp : (r : Iso2022JpRan) → Bounded c (ofIso2022Jp r)
+  bounded-iso2022jp (iso2022jp-ran.Live m) = omega arith
+  bounded-iso2022jp iso2022jp-ran.Dropped = tt
+  bounded-iso2022jp iso2022jp-ran.Unfit = tt
 
-  pub small-euckr : (r : EucKrRan) → euckr.Small c r → Small c (ofEucKr r)
-  small-euckr (euckr-ran.Live m s) h = h
-  small-euckr euckr-ran.Dropped h = tt
-  small-euckr euckr-ran.Unfit h = tt
+  pub bounded-euckr : (r : EucKrRan) → euckr.Bounded c r → Bounded c (ofEucKr r)
+  bounded-euckr (euckr-ran.Live m s) h = h
+  bounded-euckr euckr-ran.Dropped h = tt
+  bounded-euckr euckr-ran.Unfit h = tt
 
-  pub small-big5 : (r : Big5Ran) → big5.Small c r → Small c (ofBig5 r)
-  small-big5 (big5-ran.Live m s) h = h
-  small-big5 big5-ran.Dropped h = tt
-  small-big5 big5-ran.Unfit h = tt
+  pub bounded-big5 : (r : Big5Ran) → big5.Bounded c r → Bounded c (ofBig5 r)
+  bounded-big5 (big5-ran.Live m s) h = h
+  bounded-big5 big5-ran.Dropped h = tt
+  bounded-big5 big5-ran.Unfit h = tt
 
-  pub small-caseless : (r : CaselessRan) → caseless.Small c r → Small c (ofCaseless r)
-  small-caseless (caseless-ran.Live m s) h = h
-  small-caseless caseless-ran.Dropped h = tt
-  small-caseless caseless-ran.Unfit h = tt
+  pub bounded-caseless : (r : CaselessRan) → caseless.Bounded c r → Bounded c (ofCaseless r)
+  bounded-caseless (caseless-ran.Live m s) h = h
+  bounded-caseless caseless-ran.Dropped h = tt
+  bounded-caseless caseless-ran.Unfit h = tt
 
-  pub small-logical : (r : LogicalRan) → logical.Small c r → Small c (ofLogical r)
-  small-logical (logical-ran.Live m s) h = h
-  small-logical logical-ran.Dropped h = tt
-  small-logical logical-ran.Unfit h = tt
+  pub bounded-logical : (r : LogicalRan) → logical.Bounded c r → Bounded c (ofLogical r)
+  bounded-logical (logical-ran.Live m s) h = h
+  bounded-logical logical-ran.Dropped h = tt
+  bounded-logical logical-ran.Unfit h = tt
 
-  pub small-visual : (r : VisualRan) → visual.Small c r → Small c (ofVisual r)
-  small-visual (visual-ran.Live m s) h = h
-  small-visual visual-ran.Dropped h = tt
-  small-visual visual-ran.Unfit h = tt
+  pub bounded-visual : (r : VisualRan) → visual.Bounded c r → Bounded c (ofVisual r)
+  bounded-visual (visual-ran.Live m s) h = h
+  bounded-visual visual-ran.Dropped h = tt
+  bounded-visual visual-ran.Unfit h = tt
 
-  pub small-arabicFrench : (r : ArabicFrenchRan) → arabicFrench.Small c r → Small c (ofArabicFrench r)
-  small-arabicFrench (arabicFrench-ran.Live m s) h = h
-  small-arabicFrench arabicFrench-ran.Dropped h = tt
-  small-arabicFrench arabicFrench-ran.Unfit h = tt
+  pub bounded-arabicFrench : (r : ArabicFrenchRan) → arabicFrench.Bounded c r → Bounded c (ofArabicFrench r)
+  bounded-arabicFrench (arabicFrench-ran.Live m s) h = h
+  bounded-arabicFrench arabicFrench-ran.Dropped h = tt
+  bounded-arabicFrench arabicFrench-ran.Unfit h = tt
 
   -- the end of the stream changes no score of it
-  pub closed-euckr : (m : EucKrRecord) → euckr.Small c (euckr.closedOf m)
+  pub closed-euckr : (m : EucKrRecord) → euckr.Bounded c (euckr.closedOf m)
   unfolding euckr.closedOf answeredIf
   closed-euckr m =
-      either (euckr.Small c) (euckr.soundB room m)
-      (λ e. either (λ (o : Outcome EucKrRecord). euckr.Small c (euckr.ranAs o)) (eqb (m .lead) 0) (λ e. omega arith) (λ e. tt))
+      either (euckr.Bounded c) (euckr.soundB room m)
+      (λ e. either (λ (o : Outcome EucKrRecord). euckr.Bounded c (euckr.ranAs o)) (eqb (m .lead) 0) (λ e. omega arith) (λ e. tt))
       (λ e. tt)
 
   -- the end of the stream changes no score of it
-  pub closed-big5 : (m : Big5Record) → big5.Small c (big5.closedOf m)
+  pub closed-big5 : (m : Big5Record) → big5.Bounded c (big5.closedOf m)
   unfolding big5.closedOf answeredIf
   closed-big5 m =
-      either (big5.Small c) (big5.soundB limit m)
-      (λ e. either (λ (o : Outcome Big5Record). big5.Small c (big5.ranAs o)) (eqb (m .lead) 0) (λ e. omega arith) (λ e. tt))
+      either (big5.Bounded c) (big5.soundB limit m)
+      (λ e. either (λ (o : Outcome Big5Record). big5.Bounded c (big5.ranAs o)) (eqb (m .lead) 0) (λ e. omega arith) (λ e. tt))
       (λ e. tt)
 
 module _ (w : List ℤ) where

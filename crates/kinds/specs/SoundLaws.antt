@@ -42,7 +42,7 @@ use Rattle.arabic_french.specs.ArabicFrenchLaws as arabicFrench-laws
 use Rattle.arabic_french.specs.declared.ArabicFrench.{ArabicFrench as ArabicFrenchRecord}
 use Rattle.utf8.specs.Utf8 as utf-8
 use Rattle.utf8.specs.Utf8Laws as utf-8-laws
-use Rattle.kinds.specs.Kinds.{freshIn, stepOf, closeOf, WeighedIn}
+use Rattle.kinds.specs.Kinds.{freshOf, stepOf, closeOf, WeighedIn}
 use Rattle.kinds.specs.KindsLaws.{run-utf-8, run-iso2022jp, run-euckr, run-big5, run-caseless, run-logical, run-visual, run-arabicFrench, utf-8-still, iso2022jp-still}
 use Rattle.kinds.specs.Sound.{reachOf, SoundFor, soundLogicalB, soundB}
 use Rattle.tables.specs.Own.{Own, lentTo}
@@ -85,8 +85,8 @@ sound-more n k reach far (Visual m) h i o = (omega (arith, o .0), visual-laws.so
 sound-more n k reach far (ArabicFrench m) h i o = (omega (arith, o .0), arabicFrench-laws.sound-more reach far m i (o .1))
 
 -- ---- fresh machines
-pub fresh-sound : (n reach : ℕ) (m : Machine) → SoundFor n reach (freshIn m)
-unfolding freshIn
+pub fresh-sound : (n reach : ℕ) (m : Machine) → SoundFor n reach (freshOf m)
+unfolding freshOf
 fresh-sound n reach (Utf8 m) = utf-8-laws.fresh-sound
 fresh-sound n reach (Iso2022Jp m) = iso2022jp-laws.fresh-sound
 fresh-sound n reach (EucKr m) = record { lead-fits = refl; word-most = omega arith; held-small = omega arith }
@@ -109,14 +109,14 @@ holds-more P Q (none d) f h = tt
 holds-more P Q (live m s) f h = f m h
 
 module _ (t : Own) (n : ℕ) (xs : List ℕ) where
-  abbrev after : ℕ
-  after = n + length xs
+  abbrev total : ℕ
+  total = n + length xs
 
   -- each kind's own run, lifted
-  lifted : {S : Type 0} (wrap : S → Machine) (m : S) (step : S → ℕ → Outcome S) → run (stepOf t) (live (wrap m) (pos 0)) xs ≡ carried wrap (run step (live m (pos 0)) xs) → Holds (λ (k : S). SoundFor after after (wrap k)) (run step (live m (pos 0)) xs) → Holds (SoundFor after after) (run (stepOf t) (live (wrap m) (pos 0)) xs)
-  lifted wrap m step e h = rw e (holds-carried wrap (SoundFor after after) (run step (live m (pos 0)) xs) h)
+  lifted : {S : Type 0} (wrap : S → Machine) (m : S) (step : S → ℕ → Outcome S) → run (stepOf t) (live (wrap m) (pos 0)) xs ≡ carried wrap (run step (live m (pos 0)) xs) → Holds (λ (k : S). SoundFor total total (wrap k)) (run step (live m (pos 0)) xs) → Holds (SoundFor total total) (run (stepOf t) (live (wrap m) (pos 0)) xs)
+  lifted wrap m step e h = rw e (holds-carried wrap (SoundFor total total) (run step (live m (pos 0)) xs) h)
 
-  pub run-sound : (m : Machine) → WeighedIn m (t .weights) → SoundFor n n m → Holds (SoundFor after after) (run (stepOf t) (live m (pos 0)) xs)
+  pub run-sound : (m : Machine) → WeighedIn m (t .weights) → SoundFor n n m → Holds (SoundFor total total) (run (stepOf t) (live m (pos 0)) xs)
   run-sound (Utf8 m) w o = lifted Utf8 m utf-8.stepOf (run-utf-8 t (pos 0) xs m) (ends-holds utf-8.Sound (pos 0) (run utf-8.stepOf (live m (pos 0)) xs) (utf-8-laws.run-keeps m (pos 0) xs o))
   run-sound (Iso2022Jp m) w o =
       lifted Iso2022Jp m (iso2022jp.stepOf (t .index)) (run-iso2022jp t (pos 0) xs m) (ends-holds iso2022jp.Sound (pos 0) (run (iso2022jp.stepOf (t .index)) (live m (pos 0)) xs) (iso2022jp-laws.run-keeps (t .index) m (pos 0) xs o))
@@ -128,16 +128,16 @@ module _ (t : Own) (n : ℕ) (xs : List ℕ) where
       lifted Big5 m (big5-scoring.stepOf l) (run-big5 t (pos 0) xs m) (run-holds (big5-scoring.stepOf l) big5.Sound (λ (k : ℕ) (x : Big5Record) (b : ℕ) (h : big5.Sound k x). holds-all (big5.Sound (k + 1)) (big5-scoring.stepOf l x b) (λ (y : Big5Record) (s : ℤ) e. big5-laws.turn-within l w k x b y s h e .0)) n (live m (pos 0)) xs o)
   run-sound (Caseless m) w o =
       let l = lentTo t in
-      lifted Caseless m (caseless.stepOf l) (run-caseless t (pos 0) xs m) (holds-more (caseless.Sound after) (λ (k : CaselessRecord). SoundFor after after (Caseless k)) (run (caseless.stepOf l) (live m (pos 0)) xs) (λ (k : CaselessRecord) (h : caseless.Sound after k). (h .longest-most, h)) (run-holds (caseless.stepOf l) caseless.Sound (λ (k : ℕ) (x : CaselessRecord) (b : ℕ) (h : caseless.Sound k x). holds-all (caseless.Sound (k + 1)) (caseless.stepOf l x b) (λ (y : CaselessRecord) (s : ℤ) e. caseless-laws.sound-next l x b k y s h e)) n (live m (pos 0)) xs (o .1)))
+      lifted Caseless m (caseless.stepOf l) (run-caseless t (pos 0) xs m) (holds-more (caseless.Sound total) (λ (k : CaselessRecord). SoundFor total total (Caseless k)) (run (caseless.stepOf l) (live m (pos 0)) xs) (λ (k : CaselessRecord) (h : caseless.Sound total k). (h .longest-most, h)) (run-holds (caseless.stepOf l) caseless.Sound (λ (k : ℕ) (x : CaselessRecord) (b : ℕ) (h : caseless.Sound k x). holds-all (caseless.Sound (k + 1)) (caseless.stepOf l x b) (λ (y : CaselessRecord) (s : ℤ) e. caseless-laws.sound-next l x b k y s h e)) n (live m (pos 0)) xs (o .1)))
   run-sound (Logical m) w o =
       let l = lentTo t in
-      lifted Logical m (logical.stepOf l) (run-logical t (pos 0) xs m) (holds-more (logical.Sound after) (λ (k : LogicalRecord). SoundFor after after (Logical k)) (run (logical.stepOf l) (live m (pos 0)) xs) (λ (k : LogicalRecord) (h : logical.Sound after k). (h .punctuation-most, (h .common .longest-most, h))) (run-holds (logical.stepOf l) logical.Sound (λ (k : ℕ) (x : LogicalRecord) (b : ℕ) (h : logical.Sound k x). holds-all (logical.Sound (k + 1)) (logical.stepOf l x b) (λ (y : LogicalRecord) (s : ℤ) e. logical-laws.sound-next l x b k y s h e)) n (live m (pos 0)) xs (o .1 .1)))
+      lifted Logical m (logical.stepOf l) (run-logical t (pos 0) xs m) (holds-more (logical.Sound total) (λ (k : LogicalRecord). SoundFor total total (Logical k)) (run (logical.stepOf l) (live m (pos 0)) xs) (λ (k : LogicalRecord) (h : logical.Sound total k). (h .punctuation-most, (h .common .longest-most, h))) (run-holds (logical.stepOf l) logical.Sound (λ (k : ℕ) (x : LogicalRecord) (b : ℕ) (h : logical.Sound k x). holds-all (logical.Sound (k + 1)) (logical.stepOf l x b) (λ (y : LogicalRecord) (s : ℤ) e. logical-laws.sound-next l x b k y s h e)) n (live m (pos 0)) xs (o .1 .1)))
   run-sound (Visual m) w o =
       let l = lentTo t in
-      lifted Visual m (visual.stepOf l) (run-visual t (pos 0) xs m) (holds-more (visual.Sound after) (λ (k : VisualRecord). SoundFor after after (Visual k)) (run (visual.stepOf l) (live m (pos 0)) xs) (λ (k : VisualRecord) (h : visual.Sound after k). (h .common .longest-most, h)) (run-holds (visual.stepOf l) visual.Sound (λ (k : ℕ) (x : VisualRecord) (b : ℕ) (h : visual.Sound k x). holds-all (visual.Sound (k + 1)) (visual.stepOf l x b) (λ (y : VisualRecord) (s : ℤ) e. visual-laws.sound-next l x b k y s h e)) n (live m (pos 0)) xs (o .1)))
+      lifted Visual m (visual.stepOf l) (run-visual t (pos 0) xs m) (holds-more (visual.Sound total) (λ (k : VisualRecord). SoundFor total total (Visual k)) (run (visual.stepOf l) (live m (pos 0)) xs) (λ (k : VisualRecord) (h : visual.Sound total k). (h .common .longest-most, h)) (run-holds (visual.stepOf l) visual.Sound (λ (k : ℕ) (x : VisualRecord) (b : ℕ) (h : visual.Sound k x). holds-all (visual.Sound (k + 1)) (visual.stepOf l x b) (λ (y : VisualRecord) (s : ℤ) e. visual-laws.sound-next l x b k y s h e)) n (live m (pos 0)) xs (o .1)))
   run-sound (ArabicFrench m) w o =
       let l = lentTo t in
-      lifted ArabicFrench m (arabicFrench.stepOf l) (run-arabicFrench t (pos 0) xs m) (holds-more (arabicFrench.Sound after) (λ (k : ArabicFrenchRecord). SoundFor after after (ArabicFrench k)) (run (arabicFrench.stepOf l) (live m (pos 0)) xs) (λ (k : ArabicFrenchRecord) (h : arabicFrench.Sound after k). (h .longest-most, h)) (run-holds (arabicFrench.stepOf l) arabicFrench.Sound (λ (k : ℕ) (x : ArabicFrenchRecord) (b : ℕ) (h : arabicFrench.Sound k x). holds-all (arabicFrench.Sound (k + 1)) (arabicFrench.stepOf l x b) (λ (y : ArabicFrenchRecord) (s : ℤ) e. arabicFrench-laws.sound-next l x b k y s h e)) n (live m (pos 0)) xs (o .1)))
+      lifted ArabicFrench m (arabicFrench.stepOf l) (run-arabicFrench t (pos 0) xs m) (holds-more (arabicFrench.Sound total) (λ (k : ArabicFrenchRecord). SoundFor total total (ArabicFrench k)) (run (arabicFrench.stepOf l) (live m (pos 0)) xs) (λ (k : ArabicFrenchRecord) (h : arabicFrench.Sound total k). (h .longest-most, h)) (run-holds (arabicFrench.stepOf l) arabicFrench.Sound (λ (k : ℕ) (x : ArabicFrenchRecord) (b : ℕ) (h : arabicFrench.Sound k x). holds-all (arabicFrench.Sound (k + 1)) (arabicFrench.stepOf l x b) (λ (y : ArabicFrenchRecord) (s : ℤ) e. arabicFrench-laws.sound-next l x b k y s h e)) n (live m (pos 0)) xs (o .1)))
 
 -- ---- the end of the stream
 longest-kept : (n word longest : ℕ) (a : Bool) → word ≤ n → longest ≤ n → longestOf word longest a ≤ n

@@ -4,7 +4,7 @@ ghost use Prim.Native.Nat.{_*_};
 ghost use lib.ListN.{length};
 ghost use Rattle.weights.specs.Weights.{perByte};
 ghost use Rattle.tables.specs.Own.{own};
-ghost use Rattle.kinds.specs.Kinds.{kindOf, freshIn, ofUtf8, ofIso2022Jp, ofEucKr, ofBig5, ofCaseless, ofLogical, ofVisual, ofArabicFrench, ranOf, closedOf, Small, Weighed};
+ghost use Rattle.kinds.specs.Kinds.{placeNumber, freshOf, ofUtf8, ofIso2022Jp, ofEucKr, ofBig5, ofCaseless, ofLogical, ofVisual, ofArabicFrench, ranOf, closedOf, Bounded, Weighed};
 use arabic_french::ArabicFrench;
 use big5;
 use big5::Big5;
@@ -119,8 +119,8 @@ fn of_arabic_french(r: arabic_french::Ran) -> Ran
 
 impl Machine {
     // The number of the place that holds machines of this kind.
-    pub fn kind(self) -> usize
-        ensures { λ r. ⌜ r ≡ kindOf self ⌝ }
+    pub fn place_number(self) -> usize
+        ensures { λ r. ⌜ r ≡ placeNumber self ⌝ }
     {
         match self {
             Machine::Utf8(_) => 0,
@@ -135,8 +135,8 @@ impl Machine {
     }
 
     // The fresh machine of the same kind.
-    pub fn renewed(self) -> Machine
-        ensures { λ r. ⌜ r ≡ freshIn self ⌝ }
+    pub fn fresh(self) -> Machine
+        ensures { λ r. ⌜ r ≡ freshOf self ⌝ }
     {
         match self {
             Machine::Utf8(_) => Machine::Utf8(Utf8::fresh()),
@@ -162,7 +162,7 @@ impl Machine {
         weights: &[i32],
     ) -> Ran
         ensures { λ r. ⌜ r ≡ ranOf (own (now (classes .entry)) (now (marks .entry)) (now (pairs .entry)) (now (index .entry)) (now (extras .entry)) (now (weights .entry))) self (now (part .entry)) ⌝ }
-        ensures { λ r. ⌜ Small (perByte * length (now (part .entry))) r ⌝ }
+        ensures { λ r. ⌜ Bounded (perByte * length (now (part .entry))) r ⌝ }
         ensures { λ r. ⌜ Weighed self (now (weights .entry)) r ⌝ }
     {
         match self {
@@ -194,7 +194,7 @@ impl Machine {
         weights: &[i32],
     ) -> Ran
         ensures { λ r. ⌜ r ≡ closedOf (own (now (classes .entry)) (now (marks .entry)) (now (pairs .entry)) (now (index .entry)) (now (extras .entry)) (now (weights .entry))) self ⌝ }
-        ensures { λ r. ⌜ Small perByte r ⌝ }
+        ensures { λ r. ⌜ Bounded perByte r ⌝ }
     {
         match self {
             Machine::Utf8(m) => of_utf8(m.close()),

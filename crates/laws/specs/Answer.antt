@@ -41,8 +41,8 @@ told h (ran (live m s)) = h m s
 told h unfit = tt
 
 -- the score changes by at most c
-abbrev pub SmallBy : {S : Type 0} → ℕ → Answer S → Type 0
-SmallBy c a = Told (λ m s. natAbs s ≤ c) a
+abbrev pub BoundedBy : {S : Type 0} → ℕ → Answer S → Type 0
+BoundedBy c a = Told (λ m s. natAbs s ≤ c) a
 
 -- an answer that is an outcome's, and one that can't be
 pub ran-is : {S : Type 0} {a : Answer S} {o p : Outcome S} → a ≡ ran o → a ≡ ran p → o ≡ p

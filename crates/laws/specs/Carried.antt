@@ -7,7 +7,7 @@ use lib.IntN.{ℤ}
 use lib.ListN.{length}
 use Rattle.laws.specs.Lists.{last}
 use Rattle.laws.specs.Memory.{Forgets}
-use Rattle.laws.specs.Run.{Out, none, live, plus, feed, run, WhenLive, run-when}
+use Rattle.laws.specs.Run.{Out, none, live, plus, withByte, run, WhenLive, run-when}
 
 module _ {D S T : Type 0} (wrap : S → T) where
   unfoldable pub carried : Out D S → Out D T
@@ -20,15 +20,15 @@ module _ {D S T : Type 0} (wrap : S → T) where
   carried-plus k (live m s) = refl
 
   module _ (inner : S → ℕ → Out D S) (outer : T → ℕ → Out D T) (same : (m : S) (b : ℕ) → outer (wrap m) b ≡ carried (inner m b)) where
-    feed-carried : (o : Out D S) (b : ℕ) → feed outer (carried o) b ≡ carried (feed inner o b)
-    unfolding carried feed
-    feed-carried (none d) b = refl
-    feed-carried (live m s) b = ap (plus s) (same m b) ∙ sym (carried-plus s (inner m b))
+    byte-carried : (o : Out D S) (b : ℕ) → withByte outer (carried o) b ≡ carried (withByte inner o b)
+    unfolding carried withByte
+    byte-carried (none d) b = refl
+    byte-carried (live m s) b = ap (plus s) (same m b) ∙ sym (carried-plus s (inner m b))
 
     pub run-carried : (o : Out D S) (xs : List ℕ) → run outer (carried o) xs ≡ carried (run inner o xs)
     unfolding run
     run-carried o [] = refl
-    run-carried o (x ∷ xs) = ap (λ (p : Out D T). run outer p xs) (feed-carried o x) ∙ run-carried (feed inner o x) xs
+    run-carried o (x ∷ xs) = ap (λ (p : Out D T). run outer p xs) (byte-carried o x) ∙ run-carried (withByte inner o x) xs
 
 pub forgets-carried : {D S T : Type 0} {q : ℕ → Bool} {inner : S → ℕ → Out D S} {outer : T → ℕ → Out D T} {fresh : S} (wrap : S → T) → ((m : S) (b : ℕ) → outer (wrap m) b ≡ carried wrap (inner m b)) → Forgets q inner fresh → Forgets q outer (wrap fresh)
 unfolding carried

@@ -15,8 +15,8 @@ pub data Result (P Vars : Type 0) : Type 0 where
   finished : Vars → Result P Vars
 
 -- the variables after a result
-unfoldable pub after : {P Vars : Type 0} → Result P Vars → Vars
-after (continue d) = d
-after (code-point p d) = d
-after (error restored d) = d
-after (finished d) = d
+unfoldable pub varsOf : {P Vars : Type 0} → Result P Vars → Vars
+varsOf (continue d) = d
+varsOf (code-point p d) = d
+varsOf (error restored d) = d
+varsOf (finished d) = d

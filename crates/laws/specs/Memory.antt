@@ -9,7 +9,7 @@ use native.Mathlib.Omega.{arith}
 use lib.IntN.{ℤ, pos, +ℤ-idr}
 use lib.ListN.{length, drop, length-drop}
 use Rattle.laws.specs.Lists.{any, last, last-append, last-short}
-use Rattle.laws.specs.Run.{Out, live, plus, feed, run}
+use Rattle.laws.specs.Run.{Out, live, plus, withByte, run}
 use Rattle.laws.specs.Tests.{both, neither}
 
 -- each of the bytes passes
@@ -61,34 +61,34 @@ two-left bs h = rw length-drop (omega arith)
 -- ---- what is quiet forgets
 module _ {D S K : Type 0} {q : ℕ → Bool} {step : S → ℕ → Out D S} {holding : K → S} {seen : K → ℕ → K} (quiet : Quiet q step holding seen) where
   -- what was seen after the bytes; the record is the one of that
-  unfoldable pub after : K → List ℕ → K
-  after k [] = k
-  after k (b ∷ bs) = after (seen k b) bs
+  unfoldable pub seenAfter : K → List ℕ → K
+  seenAfter k [] = k
+  seenAfter k (b ∷ bs) = seenAfter (seen k b) bs
 
-  pub quiet-run : (k : K) (s : ℤ) (bs : List ℕ) → all q bs ≡ true → run step (live (holding k) s) bs ≡ live (holding (after k bs)) s
-  unfolding all run feed plus after
+  pub quiet-run : (k : K) (s : ℤ) (bs : List ℕ) → all q bs ≡ true → run step (live (holding k) s) bs ≡ live (holding (seenAfter k bs)) s
+  unfolding all run withByte plus seenAfter
   quiet-run k s [] e = refl
   quiet-run k s (b ∷ bs) e = let h = both (q b) (all q bs) e in rw (quiet .steps k b (h .0), +ℤ-idr) (quiet-run (seen k b) s bs (h .1))
 
-  after-same : (k l : K) (bs : List ℕ) → 2 ≤ length bs → after k bs ≡ after l bs
-  unfolding after
-  after-same k l [] h = absurd (not-suc-le-zero h)
-  after-same k l (a ∷ []) h = absurd (omega (arith, h))
-  after-same k l (a ∷ b ∷ bs) h = ap (λ (x : K). after x bs) (quiet .forgotten k l a b)
+  seen-same : (k l : K) (bs : List ℕ) → 2 ≤ length bs → seenAfter k bs ≡ seenAfter l bs
+  unfolding seenAfter
+  seen-same k l [] h = absurd (not-suc-le-zero h)
+  seen-same k l (a ∷ []) h = absurd (omega (arith, h))
+  seen-same k l (a ∷ b ∷ bs) h = ap (λ (x : K). seenAfter x bs) (quiet .forgotten k l a b)
 
-  after-last : (k : K) (bs : List ℕ) → after k bs ≡ after k (last 2 bs)
-  unfolding after
-  after-last k [] = ap (after k) (sym (last-short 2 [] (omega arith)))
-  after-last k (a ∷ []) = ap (after k) (sym (last-short 2 (a ∷ []) (omega arith)))
-  after-last k (a ∷ b ∷ []) = ap (after k) (sym (last-short 2 (a ∷ b ∷ []) (omega arith)))
-  after-last k (a ∷ b ∷ c ∷ bs) =
+  seen-last : (k : K) (bs : List ℕ) → seenAfter k bs ≡ seenAfter k (last 2 bs)
+  unfolding seenAfter
+  seen-last k [] = ap (seenAfter k) (sym (last-short 2 [] (omega arith)))
+  seen-last k (a ∷ []) = ap (seenAfter k) (sym (last-short 2 (a ∷ []) (omega arith)))
+  seen-last k (a ∷ b ∷ []) = ap (seenAfter k) (sym (last-short 2 (a ∷ b ∷ []) (omega arith)))
+  seen-last k (a ∷ b ∷ c ∷ bs) =
       let r = b ∷ c ∷ bs in
-      after-last (seen k a) (b ∷ c ∷ bs) ∙ (after-same (seen k a) k (last 2 r) (two-left r (omega arith)) ∙ ap (after k) (sym (last-append 2 (a ∷ []) r (omega arith))))
+      seen-last (seen k a) (b ∷ c ∷ bs) ∙ (seen-same (seen k a) k (last 2 r) (two-left r (omega arith)) ∙ ap (seenAfter k) (sym (last-append 2 (a ∷ []) r (omega arith))))
 
   pub forgets : (k : K) → Forgets q step (holding k)
   unfolding last
   forgets k =
       record {
-        last-two = λ s bs e. quiet-run k s bs e ∙ (ap (λ (l : K). live (holding l) s) (after-last k bs) ∙ sym (quiet-run k s (last 2 bs) (all-drop q (length bs - 2) bs e)));
-        lives = λ bs e. (holding (after k bs), λ s. quiet-run k s bs e);
+        last-two = λ s bs e. quiet-run k s bs e ∙ (ap (λ (l : K). live (holding l) s) (seen-last k bs) ∙ sym (quiet-run k s (last 2 bs) (all-drop q (length bs - 2) bs e)));
+        lives = λ bs e. (holding (seenAfter k bs), λ s. quiet-run k s bs e);
       }

@@ -39,14 +39,14 @@ plus k (live m s) = live m (k +ℤ s)
 
 module _ {D S : Type 0} (step : S → ℕ → Out D S) where
   -- one byte, from what the bytes before it gave
-  unfoldable pub feed : Out D S → ℕ → Out D S
-  feed (none d) b = none d
-  feed (live m s) b = plus s (step m b)
+  unfoldable pub withByte : Out D S → ℕ → Out D S
+  withByte (none d) b = none d
+  withByte (live m s) b = plus s (step m b)
 
   -- the bytes, one after the other
   unfoldable pub run : Out D S → List ℕ → Out D S
   run o [] = o
-  run o (b ∷ bs) = run (feed o b) bs
+  run o (b ∷ bs) = run (withByte o b) bs
 
 -- the end of the stream, from what the bytes before it gave
 unfoldable pub ended : {D S : Type 0} → (S → Out D S) → Out D S → Out D S
@@ -71,31 +71,31 @@ module _ {D S : Type 0} (step : S → ℕ → Out D S) where
 
   -- one byte, from a score of 0, is the step
   pub run-one : (m : S) (b : ℕ) → run step (live m (pos 0)) (b ∷ []) ≡ step m b
-  unfolding run feed
+  unfolding run withByte
   run-one m b = plus-zero (step m b)
 
   -- joining: a run over xs ++ ys is a run over ys from the run over xs
   pub run-append : (o : Out D S) (xs ys : List ℕ) → run step o (xs ++ ys) ≡ run step (run step o xs) ys
   unfolding run
   run-append o [] ys = refl
-  run-append o (x ∷ xs) ys = run-append (feed step o x) xs ys
+  run-append o (x ∷ xs) ys = run-append (withByte step o x) xs ys
 
   -- from none it is none
   pub run-none : (d : D) (xs : List ℕ) → run step (none d) xs ≡ none d
-  unfolding run feed
+  unfolding run withByte
   run-none d [] = refl
   run-none d (x ∷ xs) = run-none d xs
 
-  feed-plus : (k : ℤ) (o : Out D S) (b : ℕ) → feed step (plus k o) b ≡ plus k (feed step o b)
-  unfolding feed plus
-  feed-plus k (none d) b = refl
-  feed-plus k (live m s) b = sym (plus-plus k s (step m b))
+  byte-plus : (k : ℤ) (o : Out D S) (b : ℕ) → withByte step (plus k o) b ≡ plus k (withByte step o b)
+  unfolding withByte plus
+  byte-plus k (none d) b = refl
+  byte-plus k (live m s) b = sym (plus-plus k s (step m b))
 
   -- shifting: from a score larger by k it ends larger by k
   pub run-plus : (k : ℤ) (o : Out D S) (xs : List ℕ) → run step (plus k o) xs ≡ plus k (run step o xs)
   unfolding run
   run-plus k o [] = refl
-  run-plus k o (x ∷ xs) = ap (λ (p : Out D S). run step p xs) (feed-plus k o x) ∙ run-plus k (feed step o x) xs
+  run-plus k o (x ∷ xs) = ap (λ (p : Out D S). run step p xs) (byte-plus k o x) ∙ run-plus k (withByte step o x) xs
 
   -- ---- for a loop: at its end, and one turn at i
   pub run-done : (o : Out D S) (xs : List ℕ) → length xs ≤ 0 → run step o xs ≡ o
@@ -105,7 +105,7 @@ module _ {D S : Type 0} (step : S → ℕ → Out D S) where
 
   module _ (m : S) (s : ℤ) (xs : List ℕ) (i : ℕ) (h : i < length xs) where
     run-at : run step (live m s) (drop i xs) ≡ run step (plus s (step m (getD xs i 0))) (drop (i + 1) xs)
-    unfolding run feed
+    unfolding run withByte
     run-at = rw (drop-cons xs i 0 h, add-one)
 
     pub turn-live : (n : S) (g : ℤ) → step m (getD xs i 0) ≡ live n g → run step (live n (s +ℤ g)) (drop (i + 1) xs) ≡ run step (live m s) (drop i xs)
@@ -133,17 +133,17 @@ when-plus P k (live m s) h = h
 
 -- P i is what holds after i bytes
 module _ {D S : Type 0} (step : S → ℕ → Out D S) (P : ℕ → S → ℤ → Type 0) (keeps : (i : ℕ) (m : S) (s : ℤ) (b : ℕ) → P i m s → WhenLive (λ n g. P (i + 1) n (s +ℤ g)) (step m b)) where
-  feed-when : (i : ℕ) (o : Out D S) (b : ℕ) → WhenLive (P i) o → WhenLive (P (i + 1)) (feed step o b)
-  unfolding feed
-  feed-when i (none d) b h = tt
-  feed-when i (live m s) b h = when-plus (P (i + 1)) s (step m b) (keeps i m s b h)
+  byte-when : (i : ℕ) (o : Out D S) (b : ℕ) → WhenLive (P i) o → WhenLive (P (i + 1)) (withByte step o b)
+  unfolding withByte
+  byte-when i (none d) b h = tt
+  byte-when i (live m s) b h = when-plus (P (i + 1)) s (step m b) (keeps i m s b h)
 
   pub run-when : (i : ℕ) (o : Out D S) (xs : List ℕ) → WhenLive (P i) o → WhenLive (P (i + length xs)) (run step o xs)
   unfolding run
   run-when i o [] h = rw add-zero h
   run-when i o (x ∷ xs) h =
       let e : i + 1 + length xs ≡ i + suc (length xs) = omega arith in
-      rw e at (run-when (i + 1) (feed step o x) xs (feed-when i o x h))
+      rw e at (run-when (i + 1) (withByte step o x) xs (byte-when i o x h))
 
 -- a live outcome has a record of which P holds, and a score of size at most c
 abbrev pub Within : {D S : Type 0} → (S → Type 0) → ℕ → Out D S → Type 0

@@ -4,7 +4,7 @@ use mathlib.Core.List.{List, _∷_, _++_}
 use Prim.Native.Nat.{ℕ, _+_}
 use native.Mathlib.Omega.{arith}
 use lib.IntN.{ℤ, pos, +ℤ-idr}
-use Rattle.laws.specs.Run.{WhenLive, when-more, run-when, Out, none, live, plus, feed, run, run-append, run-none, run-plus, ended}
+use Rattle.laws.specs.Run.{WhenLive, when-more, run-when, Out, none, live, plus, withByte, run, run-append, run-none, run-plus, ended}
 
 abbrev pub Lives : {D S : Type 0} → Out D S → Type 0
 Lives {S} o = (m : S) × ((s : ℤ) × (o ≡ live m s))
@@ -34,11 +34,11 @@ module _ {D S : Type 0} (step : S → ℕ → Out D S) where
 
   -- ---- the first byte of a run that is from the score 0
   pub run-first : (m n : S) (b : ℕ) (bs : List ℕ) → step m b ≡ live n (pos 0) → run step (live m (pos 0)) (b ∷ bs) ≡ run step (live n (pos 0)) bs
-  unfolding run feed plus
+  unfolding run withByte plus
   run-first m n b bs e = rw e
 
   pub run-drops : (m : S) (d : D) (b : ℕ) (bs : List ℕ) → step m b ≡ none d → run step (live m (pos 0)) (b ∷ bs) ≡ none d
-  unfolding run feed plus
+  unfolding run withByte plus
   run-drops m d b bs e = rw e (run-none step d bs)
 
   -- ---- what begins a stretch that lives, lives

@@ -33,7 +33,7 @@ use Rattle.caseless.specs.declared.Caseless as caseless
 use Rattle.logical.specs.declared.Logical as logical
 use Rattle.visual.specs.declared.Visual as visual
 use Rattle.arabic_french.specs.declared.ArabicFrench as arabicFrench
-use Rattle.kinds.specs.Kinds.{kindOf}
+use Rattle.kinds.specs.Kinds.{placeNumber}
 use Rattle.kinds.specs.declared.machine.Machine.{Machine}
 use Rattle.kinds.specs.declared.machine.Machine.the-variants.{Utf8, Iso2022Jp, EucKr, Big5, Caseless, Logical, Visual, ArabicFrench}
 use Rattle.places.specs.declared.place.Place.{Place}
@@ -171,7 +171,7 @@ places : (ps : List Place) → Fits (164 * length ps) (placesText ps)
 unfolding placesText placeText
 places [] = record { short = omega arith }
 places (p ∷ ps) =
-    let f = joined (place-name (kindOf (p .machine))) (scored (p .machine) (p .score)) in
+    let f = joined (place-name (placeNumber (p .machine))) (scored (p .machine) (p .score)) in
     record { short = omega (arith, joined f (places ps) .short) }
 
 saved : (n a b : ℕ) → Fits 4 (savedText (take n (a ∷ b ∷ [])))

@@ -4,7 +4,7 @@ use Prim.Native.Nat.{ℕ}
 use Rattle.names.specs.Names.{placeName}
 use Rattle.scribe.specs.Text.{ascii, flagOf, hexOf, decimalOf, signedOf}
 use Rattle.context.specs.Context.{bytesOf}
-use Rattle.kinds.specs.Kinds.{kindOf}
+use Rattle.kinds.specs.Kinds.{placeNumber}
 use Rattle.kinds.specs.declared.machine.Machine.{Machine}
 use Rattle.kinds.specs.declared.machine.Machine.the-variants.{Utf8, Iso2022Jp, EucKr, Big5, Caseless, Logical, Visual, ArabicFrench}
 use Rattle.places.specs.declared.place.Place.{Place}
@@ -60,7 +60,7 @@ scoredText m score.the-variants.None = ascii " none" ++ newline
 scoredText m (score.the-variants.Live n) = ascii " " ++ signedOf n ++ recordText m ++ newline
 
 unfoldable pub placeText : Place → List ℕ
-placeText p = placeName (kindOf (p .machine)) ++ scoredText (p .machine) (p .score)
+placeText p = placeName (placeNumber (p .machine)) ++ scoredText (p .machine) (p .score)
 
 unfoldable pub placesText : List Place → List ℕ
 placesText [] = []

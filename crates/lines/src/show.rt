@@ -95,7 +95,7 @@ fn place(out: &mut [u8], at: usize, place: Place) -> usize
 {
     let machine = place.machine;
     let score = place.score;
-    let a = names::place(out, at, machine.kind());
+    let a = names::place(out, at, machine.place_number());
     scored(out, a, machine, score)
 }
 

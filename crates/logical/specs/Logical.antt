@@ -3,7 +3,7 @@ use mathlib.Core.Bool.{Bool, true, not, _&&_}
 use mathlib.Core.List.{List}
 use Prim.Native.Nat.{ℕ, _≤_}
 use lib.Dec.{leb}
-use Rattle.laws.specs.Answer.{Answer, ran, unfit, answered, SmallBy}
+use Rattle.laws.specs.Answer.{Answer, ran, unfit, answered, BoundedBy}
 use Rattle.laws.specs.Run.{Outcome, live, dropped}
 use Rattle.octets.specs.Octets.{ascii}
 use Rattle.single.specs.Class.{caselessOf, alphabetic, alphabeticOf, unless255}
@@ -18,8 +18,8 @@ use Rattle.logical.specs.declared.Logical.{Logical}
 use Rattle.logical.specs.declared.Ran.{Ran}
 use Rattle.logical.specs.declared.Ran.the-variants.{Live, Dropped, Unfit}
 
-abbrev pub freshOf : Logical
-freshOf = record { prev = 0; «prev_ascii» = true; «plausible_punctuation» = 0; «current_word_len» = 0; «longest_word» = 0 }
+abbrev pub fresh : Logical
+fresh = record { prev = 0; «prev_ascii» = true; «plausible_punctuation» = 0; «current_word_len» = 0; «longest_word» = 0 }
 
 -- ASCII punctuation of caseless class 0 after an alphabetic class
 abbrev pub plausibleOf : List ℕ → ℕ → ℕ → ℕ → Bool
@@ -70,5 +70,5 @@ unfoldable pub closedOf : Lent → Logical → Ran
 closedOf t m = closedBy stepOf (soundB room) Live Dropped Unfit t m
 
 -- a live answer's score changes by at most c
-abbrev pub Small : ℕ → Ran → Type 0
-Small c r = SmallBy c (answerOf r)
+abbrev pub Bounded : ℕ → Ran → Type 0
+Bounded c r = BoundedBy c (answerOf r)

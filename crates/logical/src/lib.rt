@@ -5,7 +5,7 @@ ghost use lib.ListN.{length};
 ghost use Rattle.laws.specs.Answer.{ran};
 ghost use Rattle.laws.specs.Run.{alive, run};
 ghost use Rattle.weights.specs.Weights.{perByte};
-ghost use Rattle.logical.specs.Logical.{freshOf, plausibleOf, stepOf, answerOf, ranAs, ranOf, closedOf, Sound, soundB, Small};
+ghost use Rattle.logical.specs.Logical.{fresh, plausibleOf, stepOf, answerOf, ranAs, ranOf, closedOf, Sound, soundB, Bounded};
 ghost use Rattle.laws.specs.Limit.{room};
 ghost use Rattle.single.specs.Fit.{Fit};
 ghost use Rattle.single.specs.Lent.{lent, Sized};
@@ -31,7 +31,7 @@ impl Logical {
     pub const CLASSES: u8 = 128;
 
     pub fn fresh() -> Logical
-        ensures { λ r. ⌜ r ≡ freshOf ⌝ }
+        ensures { λ r. ⌜ r ≡ fresh ⌝ }
     {
         Logical {
             prev: 0,
@@ -56,7 +56,7 @@ impl Logical {
         requires { ⌜ Sized (lent (now classes) (now marks) (now pairs) (now weights)) ⌝ }
         requires { ⌜ Sound (2 * room) self ⌝ }
         ensures { λ r. ⌜ answerOf r ≡ ran (stepOf (lent (now (classes .entry)) (now (marks .entry)) (now (pairs .entry)) (now (weights .entry))) self b) ⌝ }
-        ensures { λ r. ⌜ Small perByte r ⌝ }
+        ensures { λ r. ⌜ Bounded perByte r ⌝ }
     {
         let class = classes[b as usize];
         if class == single::NO_CLASS {
@@ -91,10 +91,17 @@ impl Logical {
         )
     }
 
-    fn feed(self, part: &[u8], classes: &[u8], marks: &[u8], pairs: &[i16], weights: &[i32]) -> Ran
+    fn run_fit(
+        self,
+        part: &[u8],
+        classes: &[u8],
+        marks: &[u8],
+        pairs: &[i16],
+        weights: &[i32],
+    ) -> Ran
         requires { ⌜ Fit (lent (now classes) (now marks) (now pairs) (now weights)) (Sound room self) (length (now part)) ⌝ }
         ensures { λ r. ⌜ r ≡ ranAs (run (stepOf (lent (now (classes .entry)) (now (marks .entry)) (now (pairs .entry)) (now (weights .entry)))) (alive self) (now (part .entry))) ⌝ }
-        ensures { λ r. ⌜ Small (perByte * length (now (part .entry))) r ⌝ }
+        ensures { λ r. ⌜ Bounded (perByte * length (now (part .entry))) r ⌝ }
     {
         let mut m = self;
         let mut score: i64 = 0;
@@ -135,7 +142,7 @@ impl Logical {
         weights: &[i32],
     ) -> Ran
         ensures { λ r. ⌜ r ≡ ranOf (lent (now (classes .entry)) (now (marks .entry)) (now (pairs .entry)) (now (weights .entry))) self (now (part .entry)) ⌝ }
-        ensures { λ r. ⌜ Small (perByte * length (now (part .entry))) r ⌝ }
+        ensures { λ r. ⌜ Bounded (perByte * length (now (part .entry))) r ⌝ }
     {
         if single::is_fit(
             self.is_sound_for(lengths::ROOM),
@@ -148,7 +155,7 @@ impl Logical {
             // The test has shown both: said again so that no read in the loop is tested.
             let mut m = self;
             m.prev = self.prev % Self::CLASSES;
-            return m.feed(
+            return m.run_fit(
                 part,
                 classes,
                 &marks[0..lengths::MARKS],
@@ -162,7 +169,7 @@ impl Logical {
     // The end of the stream: it counts as a space.
     pub fn close(self, classes: &[u8], marks: &[u8], pairs: &[i16], weights: &[i32]) -> Ran
         ensures { λ r. ⌜ r ≡ closedOf (lent (now (classes .entry)) (now (marks .entry)) (now (pairs .entry)) (now (weights .entry))) self ⌝ }
-        ensures { λ r. ⌜ Small perByte r ⌝ }
+        ensures { λ r. ⌜ Bounded perByte r ⌝ }
     {
         self.run(b" ", classes, marks, pairs, weights)
     }

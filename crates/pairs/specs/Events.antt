@@ -4,7 +4,7 @@ use mathlib.Core.Bool.{cond}
 use Prim.Native.Nat.{ℕ, _-_}
 use lib.Dec.{eqb}
 use lib.ListN.{length}
-use Rattle.laws.specs.Handler.{byte, Result, continue, code-point, error, finished, after}
+use Rattle.laws.specs.Handler.{byte, Result, continue, code-point, error, finished, varsOf}
 use Rattle.pairs.specs.Pairs.{decoded}
 use Rattle.pairs.specs.Standard.{CodePoints, null, one, two, Layout, first, returned, handler}
 use Rattle.pairs.specs.declared.Decoded.{Decoded}
@@ -25,7 +25,7 @@ eventOf read (error restored lead) = Error (read - length restored)
 eventOf read (finished lead) = Pending
 
 abbrev pub seenAs : ℕ → Result CodePoints ℕ → Decoded
-seenAs read result = decoded (after result) (eventOf read result)
+seenAs read result = decoded (varsOf result) (eventOf read result)
 
 -- a byte, alone or after a lead
 abbrev pub seenBy : Layout → (ℕ → CodePoints) → ℕ → ℕ → Decoded

@@ -2,8 +2,8 @@ pub mod Pairs
 pub mod Standard
 pub mod Events
 pub mod PairsLaws
-pub mod Places
-pub mod PlacesLaws
+pub mod Ranks
+pub mod RanksLaws
 pub mod Sequences
 pub mod SequencesLaws
 pub mod Ranges

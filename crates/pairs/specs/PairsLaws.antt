@@ -5,7 +5,7 @@ use Prim.Native.Nat.{ℕ, _≤_}
 use native.Mathlib.Omega.{arith}
 use lib.Dec.{eqb}
 use borrow.Author.Tests.{leb-true, le-leb, eqb-true, ne-eqb}
-use Rattle.laws.specs.Handler.{byte, Result, after}
+use Rattle.laws.specs.Handler.{byte, Result, varsOf}
 use Rattle.laws.specs.Tests.{either}
 use Rattle.octets.specs.Octets.{ascii}
 use Rattle.pairs.specs.Pairs.{isLead, isLeadOrNone, SmallHeld, smallHeldB}
@@ -28,18 +28,18 @@ pub lead-most : (lead : ℕ) → isLeadOrNone lead ≡ true → lead ≤ 0xFE
 lead-most lead e = none-or lead (eqb lead 0) refl e
 
 -- ---- the lead after a byte
-pub returned-lead : (b : ℕ) (ps : CodePoints) → after (returned b ps) ≡ 0
-unfolding after returned
+pub returned-lead : (b : ℕ) (ps : CodePoints) → varsOf (returned b ps) ≡ 0
+unfolding varsOf returned
 returned-lead b null = refl
 returned-lead b (one p) = refl
 returned-lead b (two p q) = refl
 
 abbrev Holds : Result CodePoints ℕ → Type 0
-Holds r = isLeadOrNone (after r) ≡ true
+Holds r = isLeadOrNone (varsOf r) ≡ true
 
 -- the handler leaves a lead that it can hold
 pub handler-lead : (e : Layout) (points : ℕ → CodePoints) (lead b : ℕ) → Holds (handler e points lead (byte b))
-unfolding first after
+unfolding first varsOf
 handler-lead e points lead b =
     either Holds (eqb lead 0) (λ z. either Holds (ascii b) (λ a. refl) (λ a. either Holds (isLead b) (λ l. rw (l, or-true)) (λ l. refl))) (λ z. rw (returned-lead b _))
 

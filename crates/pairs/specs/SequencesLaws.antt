@@ -7,13 +7,13 @@ use native.Mathlib.Omega.{arith}
 use lib.Dec.{eqb}
 use lib.ListN.{length}
 use borrow.Author.Tests.{ne-eqb, le-ltb}
-use Rattle.laws.specs.Handler.{after}
+use Rattle.laws.specs.Handler.{varsOf}
 use Rattle.laws.specs.Tests.{through}
 use Rattle.octets.specs.Octets.{ascii}
 use Rattle.pairs.specs.Pairs.{isLead, decoded}
 use Rattle.pairs.specs.PairsLaws.{lead-bounds, returned-lead}
-use Rattle.pairs.specs.Places.{placeOf}
-use Rattle.pairs.specs.PlacesLaws.{Counted, pointer-place}
+use Rattle.pairs.specs.Ranks.{rankOf}
+use Rattle.pairs.specs.RanksLaws.{Counted, pointer-rank}
 use Rattle.pairs.specs.Sequences.{errorAt, Yields, ascii-byte, lone-byte, one-point, two-points, no-point, no-trail, Reads}
 use Rattle.pairs.specs.Standard.{CodePoints, null, one, two, Layout, first, returned, next}
 use Rattle.pairs.specs.Events.{pointsAs, eventOf, seenBy, firstOf, malformedOf}
@@ -26,15 +26,15 @@ lead-no-ascii : (b : ℕ) → isLead b ≡ true → ascii b ≡ false
 lead-no-ascii b e = let h = lead-bounds b e in le-ltb b 0x80 (omega arith)
 
 pub first-lead : (b : ℕ) → isLead b ≡ true → firstOf b ≡ decoded b Pending
-unfolding first after eventOf
+unfolding first varsOf eventOf
 first-lead b e = rw (lead-no-ascii b e, e)
 
 pub first-ascii : (b : ℕ) → ascii b ≡ true → firstOf b ≡ decoded 0 (Point b)
-unfolding first after eventOf pointsAs
+unfolding first varsOf eventOf pointsAs
 first-ascii b e = rw e
 
 pub first-lone : (b : ℕ) → ascii b ≡ false → isLead b ≡ false → firstOf b ≡ decoded 0 (Error 1)
-unfolding first after eventOf
+unfolding first varsOf eventOf
 first-lone b e f = rw (e, f)
 
 -- ---- a byte after a lead
@@ -54,8 +54,8 @@ module _ (e : Layout) (points : ℕ → CodePoints) (counted : Counted e) where
 
   module _ (lead b : ℕ) (l : isLead lead ≡ true) where
     -- what stands at the pair's place is seen
-    seen-at : (ps : CodePoints) → e .is-trail b ≡ true → points (placeOf (e .is-trail) lead b) ≡ ps → seenBy e points lead b ≡ decoded 0 (eventOf 2 (returned b ps))
-    seen-at ps t h = pair-seen e points lead b l ∙ rw (t, pointer-place e counted lead b l t, h)
+    seen-at : (ps : CodePoints) → e .is-trail b ≡ true → points (rankOf (e .is-trail) lead b) ≡ ps → seenBy e points lead b ≡ decoded 0 (eventOf 2 (returned b ps))
+    seen-at ps t h = pair-seen e points lead b l ∙ rw (t, pointer-rank e counted lead b l t, h)
 
     seen-no-trail : e .is-trail b ≡ false → seenBy e points lead b ≡ decoded 0 (errorAt b)
     seen-no-trail t = pair-seen e points lead b l ∙ rw (t, malformed-is b)
@@ -71,7 +71,7 @@ module _ (e : Layout) (points : ℕ → CodePoints) (counted : Counted e) where
 
   -- ---- and back
   module _ (lead b : ℕ) (l : isLead lead ≡ true) where
-    point-yields : (ps : CodePoints) → e .is-trail b ≡ true → points (placeOf (e .is-trail) lead b) ≡ ps → Yielded (lead ∷ b ∷ []) (eventOf 2 (returned b ps))
+    point-yields : (ps : CodePoints) → e .is-trail b ≡ true → points (rankOf (e .is-trail) lead b) ≡ ps → Yielded (lead ∷ b ∷ []) (eventOf 2 (returned b ps))
     unfolding returned eventOf pointsAs
     point-yields null t h = rw (malformed-is b) (no-point lead b l t h)
     point-yields (one p) t h = one-point lead b p l t h
@@ -79,7 +79,7 @@ module _ (e : Layout) (points : ℕ → CodePoints) (counted : Counted e) where
 
     pair-yields : (v : Event) (t : Bool) → e .is-trail b ≡ t → seenBy e points lead b ≡ decoded 0 v → Yielded (lead ∷ b ∷ []) v
     pair-yields v true t r =
-        let ps = points (placeOf (e .is-trail) lead b) in
+        let ps = points (rankOf (e .is-trail) lead b) in
         let f : v ≡ eventOf 2 (returned b ps) = ap (λ (d : Decoded). d .event) (sym r ∙ seen-at lead b l ps t refl) in
         rw f (point-yields ps t refl)
     pair-yields v false t r = let f : v ≡ errorAt b = ap (λ (d : Decoded). d .event) (sym r ∙ seen-no-trail lead b l t) in rw f (no-trail lead b l t)

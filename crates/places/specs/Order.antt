@@ -9,7 +9,7 @@ use Rattle.laws.specs.Each.{eachB, EachFrom}
 use Rattle.laws.specs.Limit.{limit}
 use Rattle.weights.specs.Weights.{perByte}
 use Rattle.records.specs.Fresh.{freshB}
-use Rattle.kinds.specs.Kinds.{kindOf, freshIn}
+use Rattle.kinds.specs.Kinds.{placeNumber, freshOf}
 use Rattle.kinds.specs.Sound.{reachOf, SoundFor, soundB}
 use Rattle.kinds.specs.declared.machine.Machine.{Machine}
 use Rattle.places.specs.declared.place.Place.{Place}
@@ -19,7 +19,7 @@ use Rattle.places.specs.declared.place.Score.the-variants.{None, Live}
 -- ---- one place
 -- fresh where the score is none; else a score that so many bytes can have given
 abbrev pub ScoredFor : ℕ → Machine → Score → Type 0
-ScoredFor reach m None = m ≡ freshIn m
+ScoredFor reach m None = m ≡ freshOf m
 ScoredFor reach m (Live s) = natAbs s ≤ perByte * reach
 
 abbrev pub ZeroOrNone : Score → Type 0
@@ -29,10 +29,10 @@ ZeroOrNone (Live s) = s ≡ pos 0
 -- until a trigger is met, every place is fresh and its score 0 or none
 abbrev pub FedOr : Bool → Place → Type 0
 FedOr true p = Unit {0}
-FedOr false p = (p .machine ≡ freshIn (p .machine)) × ZeroOrNone (p .score)
+FedOr false p = (p .machine ≡ freshOf (p .machine)) × ZeroOrNone (p .score)
 
 pub record PlaceFor (n : ℕ) (closed fed : Bool) (k : ℕ) (p : Place) : Type 0 where
-  pub kind : kindOf (p .machine) ≡ k
+  pub kind : placeNumber (p .machine) ≡ k
   pub sound : SoundFor n (reachOf (p .machine) n closed) (p .machine)
   pub scored : ScoredFor (reachOf (p .machine) n closed) (p .machine) (p .score)
   pub fed-or : FedOr fed p
@@ -57,7 +57,7 @@ unfedB p = freshB (p .machine) && zeroOrNoneB (p .score)
 unfoldable pub placeB : ℕ → Bool → Bool → ℕ → Place → Bool
 placeB n closed fed k p =
     let reach = reachOf (p .machine) n closed in
-    eqb (kindOf (p .machine)) k && (soundB n reach (p .machine) && (scoredB reach (p .machine) (p .score) && (fed || unfedB p)))
+    eqb (placeNumber (p .machine)) k && (soundB n reach (p .machine) && (scoredB reach (p .machine) (p .score) && (fed || unfedB p)))
 
 unfoldable pub slateB : ℕ → Bool → Bool → List Place → Bool
 slateB n closed fed ps = leb n limit && eachB (placeB n closed fed) 0 ps

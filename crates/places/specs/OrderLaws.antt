@@ -24,8 +24,8 @@ use Rattle.euckr.specs.declared.EucKr.{EucKr as EucKrRecord}
 use Rattle.iso2022jp.specs.Iso2022Jp as iso2022jp
 use Rattle.utf8.specs.Utf8 as utf-8
 use Rattle.records.specs.FreshLaws.{fresh-true, true-fresh}
-use Rattle.kinds.specs.KindLaws.{Alike, fresh-alike, alike-kind, alike-reach, reach-open, run-alike, close-alike}
-use Rattle.kinds.specs.Kinds.{kindOf, freshIn, stepOf, closeOf, WeighedIn}
+use Rattle.kinds.specs.KindLaws.{Alike, fresh-alike, alike-place, alike-reach, reach-open, run-alike, close-alike}
+use Rattle.kinds.specs.Kinds.{placeNumber, freshOf, stepOf, closeOf, WeighedIn}
 use Rattle.kinds.specs.KindsLaws.{utf-8-still, iso2022jp-still}
 use Rattle.kinds.specs.Sound.{takesSpace, reachOf, SoundFor}
 use Rattle.kinds.specs.SoundLaws.{sound-true, true-sound, sound-more, fresh-sound, run-sound, close-sound}
@@ -149,43 +149,43 @@ unfolding reachOf
 reach-most m n closed = either (λ (k : ℕ). k ≤ n + 1) (closed && takesSpace m) (λ e. omega arith) (λ e. omega arith)
 
 -- a live outcome's score is at most c in size
-abbrev pub SmallOut : ℕ → Outcome Machine → Type 0
-SmallOut c (none d) = Unit {0}
-SmallOut c (live m g) = natAbs g ≤ c
+abbrev pub BoundedOut : ℕ → Outcome Machine → Type 0
+BoundedOut c (none d) = Unit {0}
+BoundedOut c (live m g) = natAbs g ≤ c
 
 -- a machine of the same kind with what it can hold and its score, or none
-module _ (n k : ℕ) (closed : Bool) (m : Machine) (kind : kindOf m ≡ k) where
+module _ (n k : ℕ) (closed : Bool) (m : Machine) (kind : placeNumber m ≡ k) where
   -- an outcome's place is in order: its machine is of the kind, holds what it can, and its score is within bounds
-  pub placed : (o : Outcome Machine) → Holds (Alike m) o → Holds (SoundFor n (reachOf m n closed)) o → SmallOut (perByte * reachOf m n closed) o → PlaceFor n closed true k (placeAs m o)
+  pub placed : (o : Outcome Machine) → Holds (Alike m) o → Holds (SoundFor n (reachOf m n closed)) o → BoundedOut (perByte * reachOf m n closed) o → PlaceFor n closed true k (placeAs m o)
   unfolding placeAs
   placed (none d) a s q =
       let e = fresh-alike m in
-      record { kind = alike-kind m (freshIn m) e ∙ kind; sound = fresh-sound n (reachOf (freshIn m) n closed) m; scored = sym e; fed-or = tt }
+      record { kind = alike-place m (freshOf m) e ∙ kind; sound = fresh-sound n (reachOf (freshOf m) n closed) m; scored = sym e; fed-or = tt }
   placed (live x g) a s q =
       let e = alike-reach m x n closed a in
-      record { kind = alike-kind m x a ∙ kind; sound = rw e s; scored = rw e q; fed-or = tt }
+      record { kind = alike-place m x a ∙ kind; sound = rw e s; scored = rw e q; fed-or = tt }
 
 -- ---- a part of a chunk
-plus-small : (c d : ℕ) (s : ℤ) (o : Outcome Machine) → natAbs s ≤ c → SmallOut d o → SmallOut (c + d) (plus s o)
+plus-bounded : (c d : ℕ) (s : ℤ) (o : Outcome Machine) → natAbs s ≤ c → BoundedOut d o → BoundedOut (c + d) (plus s o)
 unfolding plus
-plus-small c d s (none x) h q = tt
-plus-small c d s (live m g) h q = omega (arith, abs-add s g)
+plus-bounded c d s (none x) h q = tt
+plus-bounded c d s (live m g) h q = omega (arith, abs-add s g)
 
 plus-holds : (P : Machine → Type 0) (s : ℤ) (o : Outcome Machine) → Holds P o → Holds P (plus s o)
 unfolding plus
 plus-holds P s (none d) h = tt
 plus-holds P s (live m g) h = h
 
-small-more : (c d : ℕ) (o : Outcome Machine) → c ≤ d → SmallOut c o → SmallOut d o
-small-more c d (none x) h q = tt
-small-more c d (live m g) h q = omega (arith, q)
+bounded-more : (c d : ℕ) (o : Outcome Machine) → c ≤ d → BoundedOut c o → BoundedOut d o
+bounded-more c d (none x) h q = tt
+bounded-more c d (live m g) h q = omega (arith, q)
 
 -- what the code knows of a machine's own run over a part, from the score 0
-pub record Ran (t : Own) (xs : List ℕ) (m : Machine) : Type 0 where
-  pub small : SmallOut (perByte * length xs) (run (stepOf t) (live m (pos 0)) xs)
+pub record KnownRun (t : Own) (xs : List ℕ) (m : Machine) : Type 0 where
+  pub small : BoundedOut (perByte * length xs) (run (stepOf t) (live m (pos 0)) xs)
   pub weighed : Holds (λ (x : Machine). WeighedIn m (t .weights)) (run (stepOf t) (live m (pos 0)) xs)
 
-module _ (t : Own) (xs : List ℕ) (m : Machine) (ran : Ran t xs m) where
+module _ (t : Own) (xs : List ℕ) (m : Machine) (ran : KnownRun t xs m) where
   sound-at : (n : ℕ) (o : Outcome Machine) → o ≡ run (stepOf t) (live m (pos 0)) xs → Holds (λ (x : Machine). WeighedIn m (t .weights)) o → SoundFor n n m → Holds (SoundFor (n + length xs) (n + length xs)) o
   sound-at n (none d) e w h = tt
   sound-at n (live x g) e w h = rw (sym e) at (run-sound t n xs m w h)
@@ -194,43 +194,43 @@ module _ (t : Own) (xs : List ℕ) (m : Machine) (ran : Ran t xs m) where
   ran-sound n h = sound-at n (run (stepOf t) (live m (pos 0)) xs) refl (ran .weighed) h
 
   -- fed, and the stream goes on
-  pub fed-for : (n k : ℕ) (s : ℤ) → kindOf m ≡ k → SoundFor n n m → natAbs s ≤ perByte * n → PlaceFor (n + length xs) false true k (placeAs m (run (stepOf t) (live m s) xs))
+  pub fed-for : (n k : ℕ) (s : ℤ) → placeNumber m ≡ k → SoundFor n n m → natAbs s ≤ perByte * n → PlaceFor (n + length xs) false true k (placeAs m (run (stepOf t) (live m s) xs))
   fed-for n k s kind sound small =
       let o = run (stepOf t) (live m (pos 0)) xs in
       let e = reach-open m (n + length xs) in
       let q : perByte * n + perByte * length xs ≤ perByte * reachOf m (n + length xs) false = rw e (omega arith) in
       rw (from-zero (stepOf t) m s xs)
-      (placed (n + length xs) k false m kind (plus s (run (stepOf t) (live m (pos 0)) xs)) (plus-holds (Alike m) s o (run-alike t m (pos 0) xs)) (rw e (plus-holds (SoundFor (n + length xs) (n + length xs)) s o (ran-sound n sound))) (small-more (perByte * n + perByte * length xs) (perByte * reachOf m (n + length xs) false) (plus s o) q (plus-small (perByte * n) (perByte * length xs) s o small (ran .small))))
+      (placed (n + length xs) k false m kind (plus s (run (stepOf t) (live m (pos 0)) xs)) (plus-holds (Alike m) s o (run-alike t m (pos 0) xs)) (rw e (plus-holds (SoundFor (n + length xs) (n + length xs)) s o (ran-sound n sound))) (bounded-more (perByte * n + perByte * length xs) (perByte * reachOf m (n + length xs) false) (plus s o) q (plus-bounded (perByte * n) (perByte * length xs) s o small (ran .small))))
 
 -- ---- the end of the stream
-ends-small : {S : Type 0} (P : S → Type 0) (wrap : S → Machine) (o : Outcome S) → Ends P (pos 0) o → SmallOut 0 (carried wrap o)
+ends-bounded : {S : Type 0} (P : S → Type 0) (wrap : S → Machine) (o : Outcome S) → Ends P (pos 0) o → BoundedOut 0 (carried wrap o)
 unfolding carried
-ends-small P wrap (none d) h = tt
-ends-small P wrap (live m g) h = rw (h .1) (omega arith)
+ends-bounded P wrap (none d) h = tt
+ends-bounded P wrap (live m g) h = rw (h .1) (omega arith)
 
 module _ (t : Own) where
   -- by what it changes the score at most: by nothing, or by what a byte adds where the closing space is counted
   pub record Room (n : ℕ) (m : Machine) : Type 0 where
     pub more : ℕ
-    pub small : SmallOut (perByte * more) (closeOf t m)
+    pub small : BoundedOut (perByte * more) (closeOf t m)
     pub within : n + more ≤ reachOf m n true
 
-  room : (n : ℕ) (m : Machine) → SoundFor n n m → SmallOut perByte (closeOf t m) → Room n m
+  room : (n : ℕ) (m : Machine) → SoundFor n n m → BoundedOut perByte (closeOf t m) → Room n m
   unfolding closeOf reachOf
-  room n (Utf8 m) o q = record { more = 0; small = ends-small utf-8.Sound Utf8 (utf-8.closeOf m) (utf-8-still m o); within = omega arith }
-  room n (Iso2022Jp m) o q = record { more = 0; small = ends-small iso2022jp.Sound Iso2022Jp (iso2022jp.closeOf m) (iso2022jp-still m o); within = omega arith }
-  room n (EucKr m) o q = record { more = 0; small = ends-small (λ (x : EucKrRecord). Unit {0}) EucKr (euckr.closeOf m) (either (Ends (λ (x : EucKrRecord). Unit {0}) (pos 0)) (eqb (m .lead) 0) (λ e. (tt, refl)) (λ e. tt)); within = omega arith }
-  room n (Big5 m) o q = record { more = 0; small = ends-small (λ (x : Big5Record). Unit {0}) Big5 (big5.closeOf m) (either (Ends (λ (x : Big5Record). Unit {0}) (pos 0)) (eqb (m .lead) 0) (λ e. (tt, refl)) (λ e. tt)); within = omega arith }
+  room n (Utf8 m) o q = record { more = 0; small = ends-bounded utf-8.Sound Utf8 (utf-8.closeOf m) (utf-8-still m o); within = omega arith }
+  room n (Iso2022Jp m) o q = record { more = 0; small = ends-bounded iso2022jp.Sound Iso2022Jp (iso2022jp.closeOf m) (iso2022jp-still m o); within = omega arith }
+  room n (EucKr m) o q = record { more = 0; small = ends-bounded (λ (x : EucKrRecord). Unit {0}) EucKr (euckr.closeOf m) (either (Ends (λ (x : EucKrRecord). Unit {0}) (pos 0)) (eqb (m .lead) 0) (λ e. (tt, refl)) (λ e. tt)); within = omega arith }
+  room n (Big5 m) o q = record { more = 0; small = ends-bounded (λ (x : Big5Record). Unit {0}) Big5 (big5.closeOf m) (either (Ends (λ (x : Big5Record). Unit {0}) (pos 0)) (eqb (m .lead) 0) (λ e. (tt, refl)) (λ e. tt)); within = omega arith }
   room n (Caseless m) o q = record { more = 1; small = q; within = omega arith }
   room n (Logical m) o q = record { more = 1; small = q; within = omega arith }
   room n (Visual m) o q = record { more = 1; small = q; within = omega arith }
   room n (ArabicFrench m) o q = record { more = 1; small = q; within = omega arith }
 
-  reach-sum : (n : ℕ) (m : Machine) (z : ℤ) → natAbs z ≤ perByte * n → (r : Room n m) → SmallOut (perByte * reachOf m n true) (plus z (closeOf t m))
+  reach-sum : (n : ℕ) (m : Machine) (z : ℤ) → natAbs z ≤ perByte * n → (r : Room n m) → BoundedOut (perByte * reachOf m n true) (plus z (closeOf t m))
   reach-sum n m z h r =
       let d = r .more in
       let e : perByte * (n + d) ≤ perByte * reachOf m n true = mul-le-mul-left perByte (r .within) in
-      small-more (perByte * n + perByte * d) (perByte * reachOf m n true) (plus z (closeOf t m)) (omega arith) (plus-small (perByte * n) (perByte * d) z (closeOf t m) h (r .small))
+      bounded-more (perByte * n + perByte * d) (perByte * reachOf m n true) (plus z (closeOf t m)) (omega arith) (plus-bounded (perByte * n) (perByte * d) z (closeOf t m) h (r .small))
 
   -- a place without a score is passed over
   pub end-passed : (n k : ℕ) (p : Place) → PlaceFor n false true k p → PlaceFor n true true k p
@@ -242,7 +242,7 @@ module _ (t : Own) where
         fed-or = tt;
       }
 
-  end-at : (n k : ℕ) (p : Place) → PlaceFor n false true k p → SmallOut perByte (closeOf t (p .machine)) → (c : Score) → p .score ≡ c → PlaceFor n true true k (endFrom t p c)
+  end-at : (n k : ℕ) (p : Place) → PlaceFor n false true k p → BoundedOut perByte (closeOf t (p .machine)) → (c : Score) → p .score ≡ c → PlaceFor n true true k (endFrom t p c)
   unfolding endFrom
   end-at n k p o q None e = end-passed n k p o
   end-at n k p o q (Live z) e =
@@ -252,5 +252,5 @@ module _ (t : Own) where
       let h : natAbs z ≤ perByte * n = rw (reach-open (p .machine) n, e) at (o .scored) in
       placed n k true (p .machine) (o .kind) (plus z (closeOf t (p .machine))) (plus-holds (Alike m) z c (close-alike t m)) (plus-holds (SoundFor n (reachOf m n true)) z c (close-sound t n (p .machine) sound)) (reach-sum n (p .machine) z h (room n (p .machine) sound q))
 
-  pub end-for : (n k : ℕ) (p : Place) → SmallOut perByte (closeOf t (p .machine)) → PlaceFor n false true k p → PlaceFor n true true k (endOf t p)
+  pub end-for : (n k : ℕ) (p : Place) → BoundedOut perByte (closeOf t (p .machine)) → PlaceFor n false true k p → PlaceFor n true true k (endOf t p)
   end-for n k p q o = end-at n k p o q (p .score) refl

@@ -4,7 +4,7 @@ use mathlib.Core.List.{List}
 use Prim.Native.Nat.{ℕ}
 use lib.IntN.{ℤ}
 use Rattle.laws.specs.Run.{Outcome, none, live, run, ended}
-use Rattle.kinds.specs.Kinds.{freshIn, stepOf, closeOf}
+use Rattle.kinds.specs.Kinds.{freshOf, stepOf, closeOf}
 use Rattle.tables.specs.Own.{Own}
 use Rattle.kinds.specs.declared.machine.Machine.{Machine}
 use Rattle.places.specs.declared.place.Place.{Place}
@@ -16,7 +16,7 @@ place m s = record { machine = m; score = s }
 
 -- the machine and the score of an outcome; none leaves the fresh machine of the kind
 unfoldable pub placeAs : Machine → Outcome Machine → Place
-placeAs m (none d) = place (freshIn m) None
+placeAs m (none d) = place (freshOf m) None
 placeAs m (live n s) = place n (Live s)
 
 -- ---- a part of a chunk, which is the last one or not, over the place's own tables

@@ -13,18 +13,18 @@ use Rattle.laws.specs.Run.{Outcome, none, live, plus, run, ended}
 use Rattle.laws.specs.Sizes.{abs-add}
 use Rattle.laws.specs.Still.{from-zero}
 use Rattle.weights.specs.Weights.{perByte}
-use Rattle.kinds.specs.KindLaws.{Alike, fresh-alike, alike-kind, reach-open, run-alike}
-use Rattle.kinds.specs.Kinds.{kindOf, freshIn, stepOf, closeOf, ranAs, ranOf, closedOf, Small, WeighedIn, Weighed}
+use Rattle.kinds.specs.KindLaws.{Alike, fresh-alike, alike-place, reach-open, run-alike}
+use Rattle.kinds.specs.Kinds.{placeNumber, freshOf, stepOf, closeOf, ranAs, ranOf, closedOf, Bounded, WeighedIn, Weighed}
 use Rattle.kinds.specs.KindsLaws.{ran-fit, closed-fit}
 use Rattle.kinds.specs.Sound.{reachOf, SoundFor}
 use Rattle.kinds.specs.SoundLaws.{sound-more, fresh-sound}
 use Rattle.tables.specs.Own.{Own, SizedAt}
 use Rattle.kinds.specs.declared.machine.Machine.{Machine}
-use Rattle.kinds.specs.declared.machine.Ran.{Ran as MachineRan}
+use Rattle.kinds.specs.declared.machine.Ran.{Ran}
 use Rattle.kinds.specs.declared.machine.Ran.the-variants as ran
 use Rattle.places.specs.Order.{PlaceFor}
 use Rattle.places.specs.Kept.{Kept, Ended}
-use Rattle.places.specs.OrderLaws.{SmallOut, Ran, ran-sound, fed-for, end-for, end-passed, reach-more, scored-more}
+use Rattle.places.specs.OrderLaws.{BoundedOut, KnownRun, ran-sound, fed-for, end-for, end-passed, reach-more, scored-more}
 use Rattle.places.specs.Place.{place, placeAs, fedFrom, feedOf}
 use Rattle.places.specs.Steps.{settledOf, endFrom, endOf, FitSum, Closes, FitEnd, FitPart}
 use Rattle.places.specs.declared.place.Place.{Place}
@@ -84,16 +84,16 @@ feed-nil t p = at (p .score) refl
         back s e = ap (place (p .machine)) (sym e)
 
 -- ---- sums
-pub fit-sum : (s : ℤ) (r : MachineRan) (c : ℕ) → Small c r → natAbs s + c < 2 ^ 63 → FitSum s r
+pub fit-sum : (s : ℤ) (r : Ran) (c : ℕ) → Bounded c r → natAbs s + c < 2 ^ 63 → FitSum s r
 fit-sum s (ran.Live n g) c h l = omega (arith, h)
 fit-sum s ran.Dropped c h l = tt
 fit-sum s ran.Unfit c h l = tt
 
 -- ---- what the code's answers say of outcomes
-pub small-out : (c : ℕ) (o : Outcome Machine) → Small c (ranAs o) → SmallOut c o
+pub bounded-out : (c : ℕ) (o : Outcome Machine) → Bounded c (ranAs o) → BoundedOut c o
 unfolding ranAs
-small-out c (none d) h = tt
-small-out c (live m g) h = h
+bounded-out c (none d) h = tt
+bounded-out c (live m g) h = h
 
 weighed-out : (m : Machine) (w : List ℤ) (o : Outcome Machine) → Weighed m w (ranAs o) → Holds (λ (x : Machine). WeighedIn m w) o
 unfolding ranAs
@@ -101,20 +101,20 @@ weighed-out m w (none d) h = tt
 weighed-out m w (live n g) h = h
 
 module _ (t : Own) (xs : List ℕ) (m : Machine) where
-  pub ran-is : (r : MachineRan) → r ≡ ranAs (run (stepOf t) (live m (pos 0)) xs) → Small (perByte * length xs) r → Weighed m (t .weights) r → Ran t xs m
+  pub ran-is : (r : Ran) → r ≡ ranAs (run (stepOf t) (live m (pos 0)) xs) → Bounded (perByte * length xs) r → Weighed m (t .weights) r → KnownRun t xs m
   ran-is r e s w =
       let o = run (stepOf t) (live m (pos 0)) xs in
-      record { small = small-out (perByte * length xs) o (rw e at s); weighed = weighed-out m (t .weights) o (rw e at w) }
+      record { small = bounded-out (perByte * length xs) o (rw e at s); weighed = weighed-out m (t .weights) o (rw e at w) }
 
 -- ---- a part, after which the place is fit for its end
-module _ (t : Own) (xs : List ℕ) (short : length xs ≤ limit) (p : Place) (sized : SizedAt (kindOf (p .machine)) t) (s : ℤ) (ran : Ran t xs (p .machine)) (sound : SoundFor limit limit (p .machine)) (small : natAbs s ≤ perByte * limit) where
+module _ (t : Own) (xs : List ℕ) (short : length xs ≤ limit) (p : Place) (sized : SizedAt (placeNumber (p .machine)) t) (s : ℤ) (ran : KnownRun t xs (p .machine)) (sound : SoundFor limit limit (p .machine)) (small : natAbs s ≤ perByte * limit) where
   -- a machine of its kind asks the same lengths
-  alike-sized : (m : Machine) → Alike (p .machine) m → SizedAt (kindOf m) t
-  alike-sized m a = subst (λ (k : ℕ). SizedAt k t) (sym (alike-kind (p .machine) m a)) sized
+  alike-sized : (m : Machine) → Alike (p .machine) m → SizedAt (placeNumber m) t
+  alike-sized m a = subst (λ (k : ℕ). SizedAt k t) (sym (alike-place (p .machine) m a)) sized
 
-  fit-at : (o : Outcome Machine) → Holds (Alike (p .machine)) o → Holds (SoundFor (limit + length xs) (limit + length xs)) o → SmallOut (perByte * length xs) o → FitEnd t (placeAs (p .machine) (plus s o))
+  fit-at : (o : Outcome Machine) → Holds (Alike (p .machine)) o → Holds (SoundFor (limit + length xs) (limit + length xs)) o → BoundedOut (perByte * length xs) o → FitEnd t (placeAs (p .machine) (plus s o))
   unfolding placeAs plus
-  fit-at (none d) a h q = record { closes = closed-fit t (freshIn (p .machine)) (alike-sized (freshIn (p .machine)) (fresh-alike (p .machine))) (fresh-sound (2 * limit) (2 * limit) (p .machine)); small = tt }
+  fit-at (none d) a h q = record { closes = closed-fit t (freshOf (p .machine)) (alike-sized (freshOf (p .machine)) (fresh-alike (p .machine))) (fresh-sound (2 * limit) (2 * limit) (p .machine)); small = tt }
   fit-at (live m g) a h q =
       let e : perByte * length xs ≤ perByte * limit = mul-le-mul-left perByte short in
       record { closes = closed-fit t m (alike-sized m a) (sound-more (limit + length xs) (2 * limit) (limit + length xs) (2 * limit) m (omega arith) (omega arith) h); small = omega (arith, abs-add s g) }
@@ -140,7 +140,7 @@ module _ (t : Own) (xs : List ℕ) (p : Place) where
   pub kept-none : (last : Bool) → p .score ≡ None → Kept t last xs p
   kept-none last e = record { kept = λ (n k : ℕ) h o. rw (sym (feed-none t xs p last e)) (none-for last n k e o) }
 
-  module _ (s : ℤ) (e : p .score ≡ Live s) (ran : Ran t xs (p .machine)) where
+  module _ (s : ℤ) (e : p .score ≡ Live s) (ran : KnownRun t xs (p .machine)) where
     fed-on : (n k : ℕ) → PlaceFor n false true k p → PlaceFor (n + length xs) false true k (placeAs (p .machine) (run (stepOf t) (live (p .machine) s) xs))
     fed-on n k o =
         let m = p .machine in
@@ -159,27 +159,27 @@ module _ (t : Own) (p : Place) where
   ended-none e = record { kept = λ (n k : ℕ) o. rw (sym (end-none t p e)) (end-passed t n k p o) }
 
   -- a live place, closed by an answer r and settled as q
-  pub end-way : (z : ℤ) (r : MachineRan) (q : Place) → p .score ≡ Live z → r ≡ closedOf t (p .machine) → Closes t (p .machine) → Small perByte r → q ≡ settledOf p z r → (q ≡ endOf t p) × Ended t p
+  pub end-way : (z : ℤ) (r : Ran) (q : Place) → p .score ≡ Live z → r ≡ closedOf t (p .machine) → Closes t (p .machine) → Bounded perByte r → q ≡ settledOf p z r → (q ≡ endOf t p) × Ended t p
   end-way z r q e a b h i =
       let o = closeOf t (p .machine) in
       let f : r ≡ ranAs (closeOf t (p .machine)) = a ∙ b in
-      (i ∙ (ap (settledOf p z) f ∙ (settled-as p z o ∙ end-live t p z e)), record { kept = λ (n k : ℕ) x. end-for t n k p (small-out perByte o (rw f at h)) x })
+      (i ∙ (ap (settledOf p z) f ∙ (settled-as p z o ∙ end-live t p z e)), record { kept = λ (n k : ℕ) x. end-for t n k p (bounded-out perByte o (rw f at h)) x })
 
 -- a live place that an answer r fed, settled as q
 pub record Fed (t : Own) (xs : List ℕ) (p : Place) (z : ℤ) (q : Place) : Type 0 where
   pub is : q ≡ placeAs (p .machine) (run (stepOf t) (live (p .machine) z) xs)
-  pub ran : Ran t xs (p .machine)
+  pub ran : KnownRun t xs (p .machine)
 
 module _ (t : Own) (xs : List ℕ) (p : Place) (fit : FitPart t p (length xs)) (z : ℤ) (e : p .score ≡ Live z) where
-  pub small-before : natAbs z ≤ perByte * limit
-  small-before = rw e at (fit .small)
+  pub bounded-before : natAbs z ≤ perByte * limit
+  bounded-before = rw e at (fit .small)
 
   pub sum-room : natAbs z + perByte * length xs < 2 ^ 63
   sum-room =
       let m : perByte * length xs ≤ perByte * limit = mul-le-mul-left perByte (fit .short) in
-      omega (arith, small-before)
+      omega (arith, bounded-before)
 
-  pub fed-way : (r : MachineRan) (q : Place) → r ≡ ranOf t (p .machine) xs → Small (perByte * length xs) r → Weighed (p .machine) (t .weights) r → q ≡ settledOf p z r → Fed t xs p z q
+  pub fed-way : (r : Ran) (q : Place) → r ≡ ranOf t (p .machine) xs → Bounded (perByte * length xs) r → Weighed (p .machine) (t .weights) r → q ≡ settledOf p z r → Fed t xs p z q
   fed-way r q a h v i =
       let m = p .machine in
       let f : r ≡ ranAs (run (stepOf t) (live (p .machine) (pos 0)) xs) = a ∙ ran-fit t xs (fit .short) (p .machine) (fit .sized) (fit .sound) in
@@ -187,7 +187,7 @@ module _ (t : Own) (xs : List ℕ) (p : Place) (fit : FitPart t p (length xs)) (
 
   module _ (q : Place) (fed : Fed t xs p z q) where
     pub last-fit : FitEnd t q
-    last-fit = rw (fed .is) (fit-end t xs (fit .short) p (fit .sized) z (fed .ran) (fit .sound) small-before)
+    last-fit = rw (fed .is) (fit-end t xs (fit .short) p (fit .sized) z (fed .ran) (fit .sound) bounded-before)
 
     pub open-way : (last : Bool) → last ≡ false → (q ≡ feedOf t last xs p) × Kept t last xs p
     open-way last l = rw l (fed .is ∙ feed-open t xs p z e, kept-open t xs p z e (fed .ran))

@@ -32,7 +32,7 @@ takenOf bits unit = cond (eqb (bits / unit % 2) 1) (Live (pos 0)) None
 -- fresh machines, each in its place
 unfoldable pub startOf : ℕ → List Place
 startOf bits =
-    place (Utf8 utf-8.fresh) (takenOf bits 1) ∷ place (Iso2022Jp iso2022jp.fresh) (takenOf bits 2) ∷ place (EucKr euckr.freshOf) (takenOf bits 4) ∷ place (Big5 big5.freshOf) (takenOf bits 8) ∷ place (Caseless caseless.freshOf) (takenOf bits 16) ∷ place (Logical logical.freshOf) (takenOf bits 32) ∷ place (Visual visual.freshOf) (takenOf bits 64) ∷ place (ArabicFrench arabicFrench.freshOf) (takenOf bits 128) ∷ []
+    place (Utf8 utf-8.fresh) (takenOf bits 1) ∷ place (Iso2022Jp iso2022jp.fresh) (takenOf bits 2) ∷ place (EucKr euckr.fresh) (takenOf bits 4) ∷ place (Big5 big5.fresh) (takenOf bits 8) ∷ place (Caseless caseless.fresh) (takenOf bits 16) ∷ place (Logical logical.fresh) (takenOf bits 32) ∷ place (Visual visual.fresh) (takenOf bits 64) ∷ place (ArabicFrench arabicFrench.fresh) (takenOf bits 128) ∷ []
 
 -- ---- a part of a chunk
 -- each place over its own tables, the first one's number being k
@@ -44,12 +44,12 @@ abbrev pub feedAll : Tables → Bool → List ℕ → List Place → List Place
 feedAll t last xs ps = feedFrom t last xs 0 ps
 
 -- the part is no longer than a stream, each place is one that such a stream can have led to, the lent lengths are exact
-unfoldable pub fitB : Tables → List ℕ → List Place → Bool
-fitB t xs ps = leb (length xs) limit && (slateB limit false true ps && sizedB t)
+unfoldable pub feedableB : Tables → List ℕ → List Place → Bool
+feedableB t xs ps = leb (length xs) limit && (slateB limit false true ps && sizedB t)
 
 -- fed; or not fit, and as they were
 abbrev pub slated : Bool → List Place → Slated
 slated fit ps = record { fit = fit; places = ps }
 
 unfoldable pub slatedOf : Tables → Bool → List ℕ → List Place → Slated
-slatedOf t last xs ps = cond (fitB t xs ps) (slated true (feedAll t last xs ps)) (slated false ps)
+slatedOf t last xs ps = cond (feedableB t xs ps) (slated true (feedAll t last xs ps)) (slated false ps)

@@ -21,7 +21,7 @@ use Rattle.caseless.specs.Caseless as caseless
 use Rattle.logical.specs.Logical as logical
 use Rattle.visual.specs.Visual as visual
 use Rattle.utf8.specs.Utf8 as utf-8
-use Rattle.kinds.specs.Kinds.{kindOf, freshIn}
+use Rattle.kinds.specs.Kinds.{placeNumber, freshOf}
 use Rattle.kinds.specs.KindLaws.{reach-open}
 use Rattle.kinds.specs.Sound.{reachOf}
 use Rattle.kinds.specs.SoundLaws.{sound-more, fresh-sound}
@@ -35,16 +35,16 @@ use Rattle.places.specs.Order.{ScoredFor, ZeroOrNone, FedOr, PlaceFor, S
 use Rattle.places.specs.Kept.{Kept, AllKept, KeptIf}
 use Rattle.places.specs.OrderLaws.{slate-true, true-slate, scored-more}
 use Rattle.places.specs.Place.{place, feedOf}
-use Rattle.places.specs.Steps.{SmallScore, FitPart}
+use Rattle.places.specs.Steps.{BoundedScore, FitPart}
 use Rattle.places.specs.PlaceLaws.{feed-nil}
-use Rattle.places.specs.Slate.{startOf, feedFrom, feedAll, fitB, slated, slatedOf}
+use Rattle.places.specs.Slate.{startOf, feedFrom, feedAll, feedableB, slated, slatedOf}
 use Rattle.places.specs.declared.place.Place.{Place}
 use Rattle.places.specs.declared.place.Score.{Score}
 use Rattle.places.specs.declared.place.Score.the-variants.{None, Live}
 use Rattle.places.specs.declared.slate.Slated.{Slated}
 
 -- ---- a start is in order
-taken-scored : (m : Machine) (t : Bool) → m ≡ freshIn m → ScoredFor 0 m (cond t (Live (pos 0)) None)
+taken-scored : (m : Machine) (t : Bool) → m ≡ freshOf m → ScoredFor 0 m (cond t (Live (pos 0)) None)
 taken-scored m true e = omega arith
 taken-scored m false e = e
 
@@ -52,7 +52,7 @@ taken-zero : (t : Bool) → ZeroOrNone (cond t (Live (pos 0)) None)
 taken-zero true = refl
 taken-zero false = tt
 
-begun : (k : ℕ) (m : Machine) (t : Bool) → kindOf m ≡ k → m ≡ freshIn m → PlaceFor 0 false false k (place m (cond t (Live (pos 0)) None))
+begun : (k : ℕ) (m : Machine) (t : Bool) → placeNumber m ≡ k → m ≡ freshOf m → PlaceFor 0 false false k (place m (cond t (Live (pos 0)) None))
 begun k m t e f =
     record {
       kind = e;
@@ -62,11 +62,11 @@ begun k m t e f =
     }
 
 pub start-for : (bits : ℕ) → SlateFor 0 false false (startOf bits)
-unfolding startOf freshIn
+unfolding startOf freshOf
 start-for bits =
     record {
       most = omega arith;
-      each = (begun 0 (Utf8 utf-8.fresh) (eqb (bits / 1 % 2) 1) refl refl, (begun 1 (Iso2022Jp iso2022jp.fresh) (eqb (bits / 2 % 2) 1) refl refl, (begun 2 (EucKr euckr.freshOf) (eqb (bits / 4 % 2) 1) refl refl, (begun 3 (Big5 big5.freshOf) (eqb (bits / 8 % 2) 1) refl refl, (begun 4 (Caseless caseless.freshOf) (eqb (bits / 16 % 2) 1) refl refl, (begun 5 (Logical logical.freshOf) (eqb (bits / 32 % 2) 1) refl refl, (begun 6 (Visual visual.freshOf) (eqb (bits / 64 % 2) 1) refl refl, (begun 7 (ArabicFrench arabicFrench.freshOf) (eqb (bits / 128 % 2) 1) refl refl, tt))))))));
+      each = (begun 0 (Utf8 utf-8.fresh) (eqb (bits / 1 % 2) 1) refl refl, (begun 1 (Iso2022Jp iso2022jp.fresh) (eqb (bits / 2 % 2) 1) refl refl, (begun 2 (EucKr euckr.fresh) (eqb (bits / 4 % 2) 1) refl refl, (begun 3 (Big5 big5.fresh) (eqb (bits / 8 % 2) 1) refl refl, (begun 4 (Caseless caseless.fresh) (eqb (bits / 16 % 2) 1) refl refl, (begun 5 (Logical logical.fresh) (eqb (bits / 32 % 2) 1) refl refl, (begun 6 (Visual visual.fresh) (eqb (bits / 64 % 2) 1) refl refl, (begun 7 (ArabicFrench arabicFrench.fresh) (eqb (bits / 128 % 2) 1) refl refl, tt))))))));
     }
 
 -- ---- more bytes
@@ -84,7 +84,7 @@ pub slate-more : (n m : ℕ) (fed : Bool) (ps : List Place) → n ≤ m → m �
 slate-more n m fed ps h l o = record { most = l; each = each-weaken (PlaceFor n false fed) (PlaceFor m false true) (place-more n m fed h) 0 ps (o .each) }
 
 -- ---- places that were not fed yet stay so, whatever the stream has
-zero-scored : (n : ℕ) (m : Machine) (c : Score) → m ≡ freshIn m → ZeroOrNone c → ScoredFor n m c
+zero-scored : (n : ℕ) (m : Machine) (c : Score) → m ≡ freshOf m → ZeroOrNone c → ScoredFor n m c
 zero-scored n m None e z = e
 zero-scored n m (Live s) e z = rw z (omega arith)
 
@@ -99,35 +99,35 @@ unfed-for n m closed fed k p f o =
       fed-or = f;
     }
 
-pub slate-still : (n m : ℕ) (closed : Bool) (ps : List Place) → m ≤ limit → SlateFor n false false ps → SlateFor m closed false ps
-slate-still n m closed ps l o = record { most = l; each = each-weaken (PlaceFor n false false) (PlaceFor m closed false) (λ (k : ℕ) (p : Place) (q : PlaceFor n false false k p). unfed-for n m closed false k p (q .fed-or) q) 0 ps (o .each) }
+pub slate-unfed : (n m : ℕ) (closed : Bool) (ps : List Place) → m ≤ limit → SlateFor n false false ps → SlateFor m closed false ps
+slate-unfed n m closed ps l o = record { most = l; each = each-weaken (PlaceFor n false false) (PlaceFor m closed false) (λ (k : ℕ) (p : Place) (q : PlaceFor n false false k p). unfed-for n m closed false k p (q .fed-or) q) 0 ps (o .each) }
 
 -- ---- fitness
 module _ (t : Tables) (xs : List ℕ) (ps : List Place) where
-  pub record Fit : Type 0 where
+  pub record Feedable : Type 0 where
     pub short : length xs ≤ limit
     pub slate : SlateFor limit false true ps
     pub sized : Sized t
 
-  pub fit-parts : length xs ≤ limit → slateB limit false true ps ≡ true → sizedB t ≡ true → Fit
-  fit-parts h o z = record { short = h; slate = slate-true limit false true ps o; sized = sized-true t z }
+  pub feedable-parts : length xs ≤ limit → slateB limit false true ps ≡ true → sizedB t ≡ true → Feedable
+  feedable-parts h o z = record { short = h; slate = slate-true limit false true ps o; sized = sized-true t z }
 
   -- each way through the code
   module _ (last : Bool) where
     pub slated-long : limit < length xs → slated false ps ≡ slatedOf t last xs ps
-    unfolding slatedOf fitB
+    unfolding slatedOf feedableB
     slated-long h = rw (lt-leb (length xs) limit h)
 
     pub slated-order : slateB limit false true ps ≡ false → slated false ps ≡ slatedOf t last xs ps
-    unfolding slatedOf fitB
+    unfolding slatedOf feedableB
     slated-order e = rw (e, and-false)
 
     pub slated-length : sizedB t ≡ false → slated false ps ≡ slatedOf t last xs ps
-    unfolding slatedOf fitB
+    unfolding slatedOf feedableB
     slated-length e = rw (e, and-false, and-false)
 
-    pub slated-fed : Fit → slated true (feedAll t last xs ps) ≡ slatedOf t last xs ps
-    unfolding slatedOf fitB
+    pub slated-fed : Feedable → slated true (feedAll t last xs ps) ≡ slatedOf t last xs ps
+    unfolding slatedOf feedableB
     slated-fed f = rw (le-leb _ _ (f .short), true-slate limit false true ps (f .slate), true-sized t (f .sized))
 
   -- what a caller that has tested uses
@@ -177,16 +177,16 @@ pub feed-at : (t : Tables) (last : Bool) (xs : List ℕ) (ps : List Place) (d : 
 feed-at t last xs ps d k h = subst (λ (i : ℕ). getD (feedAll t last xs ps) k d ≡ feedOf (ownOf t i) last xs (getD ps k d)) (zero-add k) (feed-from-at t last xs 0 ps d k h)
 
 -- ---- for the code
-score-small : (m : Machine) (c : Score) → ScoredFor limit m c → SmallScore (perByte * limit) c
-score-small m None q = tt
-score-small m (Live s) q = q
+score-bounded : (m : Machine) (c : Score) → ScoredFor limit m c → BoundedScore (perByte * limit) c
+score-bounded m None q = tt
+score-bounded m (Live s) q = q
 
 -- a place in order and its own tables are fit for a part
 pub fit-place : (t : Tables) (xs : List ℕ) (ps : List Place) (k : ℕ) (d : Place) → Sized t → SlateFor limit false true ps → length xs ≤ limit → length ps ≡ 8 → k < 8 → FitPart (ownOf t k) (getD ps k d) (length xs)
 fit-place t xs ps k d z f h e l =
     let m = getD ps k d .machine in
     let o = subst (λ (i : ℕ). PlaceFor limit false true i (getD ps k d)) (zero-add k) (each-get (PlaceFor limit false true) 0 ps d (f .each) k (rw e l)) in
-    record { sized = subst (λ (i : ℕ). SizedAt i (ownOf t k)) (sym (o .kind)) (own-sized t z k l); sound = rw (reach-open m limit) at (o .sound); small = score-small m (getD ps k d .score) (rw (reach-open m limit) at (o .scored)); short = h }
+    record { sized = subst (λ (i : ℕ). SizedAt i (ownOf t k)) (sym (o .kind)) (own-sized t z k l); sound = rw (reach-open m limit) at (o .sound); small = score-bounded m (getD ps k d .score) (rw (reach-open m limit) at (o .scored)); short = h }
 
 -- eight places, one by one
 pub joined : {p q : Place} {ps qs : List Place} → p ≡ q → ps ≡ qs → p ∷ ps ≡ q ∷ qs

@@ -5,7 +5,7 @@ use lib.IntN.{ℤ, natAbs, _+ℤ_}
 use Rattle.laws.specs.Limit.{limit}
 use Rattle.laws.specs.Run.{plus}
 use Rattle.weights.specs.Weights.{perByte}
-use Rattle.kinds.specs.Kinds.{kindOf, freshIn, closeOf, ranAs, closedOf}
+use Rattle.kinds.specs.Kinds.{placeNumber, freshOf, closeOf, ranAs, closedOf}
 use Rattle.kinds.specs.Sound.{SoundFor}
 use Rattle.tables.specs.Own.{Own, SizedAt}
 use Rattle.kinds.specs.declared.machine.Machine.{Machine}
@@ -19,7 +19,7 @@ use Rattle.places.specs.declared.place.Score.the-variants.{None, Live}
 -- the sum, or none
 unfoldable pub settledOf : Place → ℤ → Ran → Place
 settledOf p s (ran.Live n g) = place n (Live (s +ℤ g))
-settledOf p s ran.Dropped = place (freshIn (p .machine)) None
+settledOf p s ran.Dropped = place (freshOf (p .machine)) None
 settledOf p s ran.Unfit = p
 
 -- the end of the stream alone
@@ -37,9 +37,9 @@ FitSum s (ran.Live n g) = natAbs s + natAbs g < 2 ^ 63
 FitSum s ran.Dropped = Unit {0}
 FitSum s ran.Unfit = Unit {0}
 
-abbrev pub SmallScore : ℕ → Score → Type 0
-SmallScore c None = Unit {0}
-SmallScore c (Live s) = natAbs s ≤ c
+abbrev pub BoundedScore : ℕ → Score → Type 0
+BoundedScore c None = Unit {0}
+BoundedScore c (Live s) = natAbs s ≤ c
 
 -- the end of the stream is answered
 abbrev pub Closes : Own → Machine → Type 0
@@ -47,11 +47,11 @@ Closes t m = closedOf t m ≡ ranAs (closeOf t m)
 
 pub record FitEnd (t : Own) (p : Place) : Type 0 where
   pub closes : Closes t (p .machine)
-  pub small : SmallScore (2 * perByte * limit) (p .score)
+  pub small : BoundedScore (2 * perByte * limit) (p .score)
 
 -- a part that is not too long, of a place that so many bytes can have led to, over tables of exact lengths
 pub record FitPart (t : Own) (p : Place) (bytes : ℕ) : Type 0 where
-  pub sized : SizedAt (kindOf (p .machine)) t
+  pub sized : SizedAt (placeNumber (p .machine)) t
   pub sound : SoundFor limit limit (p .machine)
-  pub small : SmallScore (perByte * limit) (p .score)
+  pub small : BoundedScore (perByte * limit) (p .score)
   pub short : bytes ≤ limit

@@ -65,7 +65,7 @@ fn is_in_order(place: Place, k: usize, bytes: u64, closed: bool, fed: bool) -> b
     let machine = place.machine;
     let score = place.score;
     let most = reach(machine, bytes, closed);
-    machine.kind() == k
+    machine.place_number() == k
         && (sound::is_sound(machine, bytes, most)
             && (is_scored(machine, score, most) && (fed || is_unfed(place))))
 }

@@ -34,7 +34,7 @@ impl Place {
                 score: Score::Live(score + change),
             },
             Ran::Dropped => Place {
-                machine: machine.renewed(),
+                machine: machine.fresh(),
                 score: Score::None,
             },
             Ran::Unfit => self,

@@ -9,16 +9,16 @@ use Rattle.reader.specs.declared.command.Command.{Command}
 use Rattle.reader.specs.declared.command.Command.the-variants.{Start, Feed, Show, Lend, More, Bad}
 
 -- `S`: which places take part
-unfoldable pub startOf : List ℕ → Command
-startOf xs = cond (ltb (length xs) 2) (More 2) (Start (getD xs 1 0))
+unfoldable pub startRead : List ℕ → Command
+startRead xs = cond (ltb (length xs) 2) (More 2) (Start (getD xs 1 0))
 
 -- a chunk of n bytes, of which so many are at hand
 unfoldable pub chunkOf : Bool → ℕ → ℕ → Command
 chunkOf last n there = cond (ltb 65536 n) Bad (cond (ltb there n) (More (6 + n)) (Feed last n))
 
 -- `F`: last, 0 or 1; length; the chunk
-unfoldable pub feedOf : List ℕ → Command
-feedOf xs =
+unfoldable pub feedRead : List ℕ → Command
+feedRead xs =
     cond
     (ltb (length xs) 6)
     (More 6)
@@ -35,8 +35,8 @@ readOf xs =
     (More 1)
     (cond
     (eqb (getD xs 0 0) 0x53)
-    (startOf xs)
+    (startRead xs)
     (cond
     (eqb (getD xs 0 0) 0x46)
-    (feedOf xs)
+    (feedRead xs)
     (cond (eqb (getD xs 0 0) 0x51) Show (cond (eqb (getD xs 0 0) 0x54) Lend Bad))))

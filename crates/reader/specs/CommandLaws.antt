@@ -7,7 +7,7 @@ use lib.Dec.{eqb, ltb}
 use lib.ListN.{length, getD}
 use borrow.Author.Tests.{ltb-false}
 use Rattle.laws.specs.Tests.{either}
-use Rattle.reader.specs.Command.{startOf, chunkOf, feedOf, readOf}
+use Rattle.reader.specs.Command.{startRead, chunkOf, feedRead, readOf}
 use Rattle.reader.specs.Little.{littleAt}
 use Rattle.reader.specs.declared.command.Command.{Command}
 use Rattle.reader.specs.declared.command.Command.the-variants.{Start, Feed, Show, Lend, More, Bad}
@@ -22,12 +22,12 @@ Room n (More k) = 0 ≤ n
 Room n Bad = 0 ≤ n
 
 module _ (xs : List ℕ) where
-  start-room : Room (length xs) (startOf xs)
-  unfolding startOf
+  start-room : Room (length xs) (startRead xs)
+  unfolding startRead
   start-room = either (Room (length xs)) (ltb (length xs) 2) (λ e. omega arith) (λ e. ltb-false (length xs) 2 e)
 
-  feed-room : Room (length xs) (feedOf xs)
-  unfolding feedOf chunkOf
+  feed-room : Room (length xs) (feedRead xs)
+  unfolding feedRead chunkOf
   feed-room =
       let n = littleAt 4 xs 2 in
       either

@@ -1,6 +1,6 @@
 // The commands, read from the bytes at hand.
 ghost use mathlib.Core.Path.{_≡_};
-ghost use Rattle.reader.specs.Command.{startOf, feedOf, readOf};
+ghost use Rattle.reader.specs.Command.{startRead, feedRead, readOf};
 use crate::number;
 
 // A chunk's bytes at most.
@@ -23,7 +23,7 @@ pub enum Command {
 }
 
 fn start(bytes: &[u8]) -> Command
-    ensures { λ r. ⌜ r ≡ startOf (now (bytes .entry)) ⌝ }
+    ensures { λ r. ⌜ r ≡ startRead (now (bytes .entry)) ⌝ }
 {
     if bytes.len() < 2 {
         return Command::More(2);
@@ -32,7 +32,7 @@ fn start(bytes: &[u8]) -> Command
 }
 
 fn feed(bytes: &[u8]) -> Command
-    ensures { λ r. ⌜ r ≡ feedOf (now (bytes .entry)) ⌝ }
+    ensures { λ r. ⌜ r ≡ feedRead (now (bytes .entry)) ⌝ }
 {
     if bytes.len() < HEAD {
         return Command::More(HEAD);

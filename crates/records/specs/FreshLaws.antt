@@ -35,7 +35,7 @@ use Rattle.caseless.specs.Caseless as caseless
 use Rattle.logical.specs.Logical as logical
 use Rattle.visual.specs.Visual as visual
 use Rattle.utf8.specs.Utf8 as utf-8
-use Rattle.kinds.specs.Kinds.{freshIn}
+use Rattle.kinds.specs.Kinds.{freshOf}
 use Rattle.records.specs.Fresh.{freshUtf8B, asciiState, asciiOut, freshIso2022JpB, emptyB, otherKorean, freshEucKrB, otherCj, freshBig5B, freshCommonB, freshCaselessB, freshLogicalB, freshVisualB, spaceCase, freshArabicFrenchB, freshB}
 
 no : {A : Type 0} → false ≡ true → A
@@ -113,7 +113,7 @@ fresh-iso2022jp m e =
     same : {s : DecoderState} {o : OutputState} {l : ℕ} {p : Bool} → s ≡ D.Ascii → o ≡ O.Ascii → l ≡ 0 → p ≡ false → iso2022jp.holds s o l p ≡ iso2022jp.fresh
     same p q r s = rw (p, q, r, s)
 
-fresh-euckr : (m : EucKrRecord) → freshEucKrB m ≡ true → m ≡ euckr.freshOf
+fresh-euckr : (m : EucKrRecord) → freshEucKrB m ≡ true → m ≡ euckr.fresh
 unfolding freshEucKrB
 fresh-euckr m e =
     let a = both _ _ e in
@@ -123,10 +123,10 @@ fresh-euckr m e =
     let f = both _ _ (d .1) in
     same (other-korean (m .prev) (a .0)) (eqb-true _ _ (b .0)) (eqb-true _ _ (c .0)) (off (m .«prev_was_euc_range») (d .0)) (eqb-true _ _ (f .0)) (empty (m .held) (f .1))
   where
-    same : {k : LatinKorean} {l b : ℕ} {r : Bool} {w : ℕ} {h : Held} → k ≡ K.Other → l ≡ 0 → b ≡ 0 → r ≡ false → w ≡ 0 → h ≡ H.Nothing → record { lead = l; «prev_byte» = b; «prev_was_euc_range» = r; prev = k; «current_word_len» = w; held = h } ≡ euckr.freshOf
+    same : {k : LatinKorean} {l b : ℕ} {r : Bool} {w : ℕ} {h : Held} → k ≡ K.Other → l ≡ 0 → b ≡ 0 → r ≡ false → w ≡ 0 → h ≡ H.Nothing → record { lead = l; «prev_byte» = b; «prev_was_euc_range» = r; prev = k; «current_word_len» = w; held = h } ≡ euckr.fresh
     same p q r s t u = rw (p, q, r, s, t, u)
 
-fresh-big5 : (m : Big5Record) → freshBig5B m ≡ true → m ≡ big5.freshOf
+fresh-big5 : (m : Big5Record) → freshBig5B m ≡ true → m ≡ big5.fresh
 unfolding freshBig5B
 fresh-big5 m e =
     let a = both _ _ e in
@@ -134,27 +134,27 @@ fresh-big5 m e =
     let c = both _ _ (b .1) in
     same (other-cj (m .prev) (a .0)) (eqb-true _ _ (b .0)) (eqb-true _ _ (c .0)) (empty (m .held) (c .1))
   where
-    same : {k : LatinCj} {l b : ℕ} {h : Held} → k ≡ J.Other → l ≡ 0 → b ≡ 0 → h ≡ H.Nothing → record { lead = l; prev = k; «prev_byte» = b; held = h } ≡ big5.freshOf
+    same : {k : LatinCj} {l b : ℕ} {h : Held} → k ≡ J.Other → l ≡ 0 → b ≡ 0 → h ≡ H.Nothing → record { lead = l; prev = k; «prev_byte» = b; held = h } ≡ big5.fresh
     same p q r s = rw (p, q, r, s)
 
-fresh-caseless : (m : CaselessRecord) → freshCaselessB m ≡ true → m ≡ caseless.freshOf
+fresh-caseless : (m : CaselessRecord) → freshCaselessB m ≡ true → m ≡ caseless.fresh
 unfolding freshCaselessB
 fresh-caseless m e = let c = common (m .prev) (m .«prev_ascii») (m .«current_word_len») (m .«longest_word») e in same (c .no-prev) (c .is-ascii) (c .no-word) (c .no-longest)
   where
-    same : {k : ℕ} {a : Bool} {w l : ℕ} → k ≡ 0 → a ≡ true → w ≡ 0 → l ≡ 0 → record { prev = k; «prev_ascii» = a; «current_word_len» = w; «longest_word» = l } ≡ caseless.freshOf
+    same : {k : ℕ} {a : Bool} {w l : ℕ} → k ≡ 0 → a ≡ true → w ≡ 0 → l ≡ 0 → record { prev = k; «prev_ascii» = a; «current_word_len» = w; «longest_word» = l } ≡ caseless.fresh
     same p q r s = rw (p, q, r, s)
 
-fresh-logical : (m : LogicalRecord) → freshLogicalB m ≡ true → m ≡ logical.freshOf
+fresh-logical : (m : LogicalRecord) → freshLogicalB m ≡ true → m ≡ logical.fresh
 unfolding freshLogicalB
 fresh-logical m e =
     let a = both _ _ e in
     let c = common (m .prev) (m .«prev_ascii») (m .«current_word_len») (m .«longest_word») (a .1) in
     same (c .no-prev) (c .is-ascii) (eqb-true _ _ (a .0)) (c .no-word) (c .no-longest)
   where
-    same : {k : ℕ} {a : Bool} {p w l : ℕ} → k ≡ 0 → a ≡ true → p ≡ 0 → w ≡ 0 → l ≡ 0 → record { prev = k; «prev_ascii» = a; «plausible_punctuation» = p; «current_word_len» = w; «longest_word» = l } ≡ logical.freshOf
+    same : {k : ℕ} {a : Bool} {p w l : ℕ} → k ≡ 0 → a ≡ true → p ≡ 0 → w ≡ 0 → l ≡ 0 → record { prev = k; «prev_ascii» = a; «plausible_punctuation» = p; «current_word_len» = w; «longest_word» = l } ≡ logical.fresh
     same p q r s t = rw (p, q, r, s, t)
 
-fresh-visual : (m : VisualRecord) → freshVisualB m ≡ true → m ≡ visual.freshOf
+fresh-visual : (m : VisualRecord) → freshVisualB m ≡ true → m ≡ visual.fresh
 unfolding freshVisualB
 fresh-visual m e =
     let a = both _ _ e in
@@ -162,22 +162,22 @@ fresh-visual m e =
     let c = common (m .prev) (m .«prev_ascii») (m .«current_word_len») (m .«longest_word») (b .1) in
     same (c .no-prev) (c .is-ascii) (off (m .«prev_punctuation») (b .0)) (eqb-true _ _ (a .0)) (c .no-word) (c .no-longest)
   where
-    same : {k : ℕ} {a b : Bool} {p w l : ℕ} → k ≡ 0 → a ≡ true → b ≡ false → p ≡ 0 → w ≡ 0 → l ≡ 0 → record { prev = k; «prev_ascii» = a; «prev_punctuation» = b; «plausible_punctuation» = p; «current_word_len» = w; «longest_word» = l } ≡ visual.freshOf
+    same : {k : ℕ} {a b : Bool} {p w l : ℕ} → k ≡ 0 → a ≡ true → b ≡ false → p ≡ 0 → w ≡ 0 → l ≡ 0 → record { prev = k; «prev_ascii» = a; «prev_punctuation» = b; «plausible_punctuation» = p; «current_word_len» = w; «longest_word» = l } ≡ visual.fresh
     same p q r s t u = rw (p, q, r, s, t, u)
 
-fresh-arabic-french : (m : ArabicFrenchRecord) → freshArabicFrenchB m ≡ true → m ≡ arabicFrench.freshOf
+fresh-arabic-french : (m : ArabicFrenchRecord) → freshArabicFrenchB m ≡ true → m ≡ arabicFrench.fresh
 unfolding freshArabicFrenchB
 fresh-arabic-french m e =
     let a = both _ _ e in
     let c = common (m .prev) (m .«prev_ascii») (m .«current_word_len») (m .«longest_word») (a .1) in
     same (c .no-prev) (space-case (m .«case_state») (a .0)) (c .is-ascii) (c .no-word) (c .no-longest)
   where
-    same : {k : ℕ} {s : LatinCaseState} {a : Bool} {w l : ℕ} → k ≡ 0 → s ≡ S.Space → a ≡ true → w ≡ 0 → l ≡ 0 → record { prev = k; «case_state» = s; «prev_ascii» = a; «current_word_len» = w; «longest_word» = l } ≡ arabicFrench.freshOf
+    same : {k : ℕ} {s : LatinCaseState} {a : Bool} {w l : ℕ} → k ≡ 0 → s ≡ S.Space → a ≡ true → w ≡ 0 → l ≡ 0 → record { prev = k; «case_state» = s; «prev_ascii» = a; «current_word_len» = w; «longest_word» = l } ≡ arabicFrench.fresh
     same p q r s t = rw (p, q, r, s, t)
 
 -- ---- in both directions
-pub fresh-true : (m : Machine) → freshB m ≡ true → m ≡ freshIn m
-unfolding freshB freshIn
+pub fresh-true : (m : Machine) → freshB m ≡ true → m ≡ freshOf m
+unfolding freshB freshOf
 fresh-true (Utf8 m) e = ap Utf8 (fresh-utf8 m e)
 fresh-true (Iso2022Jp m) e = ap Iso2022Jp (fresh-iso2022jp m e)
 fresh-true (EucKr m) e = ap EucKr (fresh-euckr m e)
@@ -187,8 +187,8 @@ fresh-true (Logical m) e = ap Logical (fresh-logical m e)
 fresh-true (Visual m) e = ap Visual (fresh-visual m e)
 fresh-true (ArabicFrench m) e = ap ArabicFrench (fresh-arabic-french m e)
 
-fresh-passes : (m : Machine) → freshB (freshIn m) ≡ true
-unfolding freshB freshIn freshUtf8B freshIso2022JpB freshEucKrB freshBig5B freshCommonB freshCaselessB freshLogicalB freshVisualB freshArabicFrenchB
+fresh-passes : (m : Machine) → freshB (freshOf m) ≡ true
+unfolding freshB freshOf freshUtf8B freshIso2022JpB freshEucKrB freshBig5B freshCommonB freshCaselessB freshLogicalB freshVisualB freshArabicFrenchB
 fresh-passes (Utf8 m) = refl
 fresh-passes (Iso2022Jp m) = refl
 fresh-passes (EucKr m) = refl
@@ -198,5 +198,5 @@ fresh-passes (Logical m) = refl
 fresh-passes (Visual m) = refl
 fresh-passes (ArabicFrench m) = refl
 
-pub true-fresh : (m : Machine) → m ≡ freshIn m → freshB m ≡ true
+pub true-fresh : (m : Machine) → m ≡ freshOf m → freshB m ≡ true
 true-fresh m e = ap freshB e ∙ fresh-passes m

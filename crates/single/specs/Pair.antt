@@ -22,11 +22,11 @@ adjacentOf marks previous current =
 abbrev pub pairScore : List ℤ → ℕ → ℕ → ℤ
 pairScore pairs previous current = getD pairs (128 * current + previous) (pos 0)
 
-unfoldable pub pairOf : List ℕ → List ℤ → List ℤ → ℕ → ℕ → ℤ
-pairOf marks pairs weights previous current =
+unfoldable pub pairGainOf : List ℕ → List ℤ → List ℤ → ℕ → ℕ → ℤ
+pairGainOf marks pairs weights previous current =
     cond (adjacentOf marks previous current) (pairScore pairs previous current +ℤ weightOf weights latinAdjacency)
     (pairScore pairs previous current)
 
 -- by what a byte changes the score of each of the four machines
 abbrev pub gainOf : Lent → ℕ → Bool → ℕ → ℤ
-gainOf t previous prevAscii b = cond (asciiPair prevAscii b) (pos 0) (pairOf (t .marks) (t .pairs) (t .weights) previous (caselessOf t b))
+gainOf t previous prevAscii b = cond (asciiPair prevAscii b) (pos 0) (pairGainOf (t .marks) (t .pairs) (t .weights) previous (caselessOf t b))

@@ -8,7 +8,7 @@ use lib.IntN.{ℤ, _+ℤ_}
 use borrow.Author.Tests.{eqb-true, eq-eqb, ne-eqb}
 use Rattle.weights.specs.Weights.{weightOf, latinAdjacency}
 use Rattle.single.specs.Class.{alphabeticOf, latinLetter}
-use Rattle.single.specs.Pair.{adjacentOf, pairScore, pairOf}
+use Rattle.single.specs.Pair.{adjacentOf, pairScore, pairGainOf}
 
 -- where x says that the two are the same, the second adds nothing to the first
 or-again : (a b x : Bool) → (x ≡ true → b ≡ a) → a ≡ (a || (x && b))
@@ -32,10 +32,10 @@ unfolding adjacentOf
 adjacent-not marks p k h e = rw (ne-eqb p latinLetter h, ne-eqb k latinLetter e)
 
 module _ (marks : List ℕ) (pairs weights : List ℤ) (p k : ℕ) (g : ℤ) (r : Bool) (told : r ≡ adjacentOf marks p k) where
-  pub pair-plain : r ≡ false → g ≡ pairScore pairs p k → g ≡ pairOf marks pairs weights p k
-  unfolding pairOf
+  pub pair-plain : r ≡ false → g ≡ pairScore pairs p k → g ≡ pairGainOf marks pairs weights p k
+  unfolding pairGainOf
   pair-plain e q = let n : adjacentOf marks p k ≡ false = sym told ∙ e in rw (n, q)
 
-  pub pair-latin : r ≡ true → g ≡ pairScore pairs p k +ℤ weightOf weights latinAdjacency → g ≡ pairOf marks pairs weights p k
-  unfolding pairOf
+  pub pair-latin : r ≡ true → g ≡ pairScore pairs p k +ℤ weightOf weights latinAdjacency → g ≡ pairGainOf marks pairs weights p k
+  unfolding pairGainOf
   pair-latin e q = let n : adjacentOf marks p k ≡ true = sym told ∙ e in rw (n, q)

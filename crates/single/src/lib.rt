@@ -7,7 +7,7 @@ ghost use Rattle.weights.specs.Weights.{term};
 ghost use Rattle.single.specs.Class.{alphabeticOf};
 ghost use Rattle.single.specs.Fit.{commonB, fitB};
 ghost use Rattle.single.specs.Lent.{lent, sizedB};
-ghost use Rattle.single.specs.Pair.{asciiPair, adjacentOf, pairScore, pairOf};
+ghost use Rattle.single.specs.Pair.{asciiPair, adjacentOf, pairScore, pairGainOf};
 ghost use Rattle.single.specs.Punctuation.{punctuationOf, countOf};
 ghost use Rattle.single.specs.Words.{in64, wordsOf};
 
@@ -142,7 +142,7 @@ fn pair_score(prev: u8, current: u8, pairs: &[i16]) -> i64
 
 // The pair score of `current` after `prev`, with the adjacency weight where it applies.
 pub fn pair_gain(prev: u8, current: u8, marks: &[u8], pairs: &[i16], weights: &[i32]) -> i64
-    ensures { λ r. ⌜ r ≡ pairOf (now (marks .entry)) (now (pairs .entry)) (now (weights .entry)) prev current ⌝ }
+    ensures { λ r. ⌜ r ≡ pairGainOf (now (marks .entry)) (now (pairs .entry)) (now (weights .entry)) prev current ⌝ }
     ensures { λ r. ⌜ natAbs r ≤ 2 * term ⌝ }
 {
     let pair = pair_score(prev, current, pairs);
@@ -161,7 +161,7 @@ pub fn gain(
     pairs: &[i16],
     weights: &[i32],
 ) -> i64
-    ensures { λ r. ⌜ r ≡ cond «ascii_pair» (pos 0) (pairOf (now (marks .entry)) (now (pairs .entry)) (now (weights .entry)) prev current) ⌝ }
+    ensures { λ r. ⌜ r ≡ cond «ascii_pair» (pos 0) (pairGainOf (now (marks .entry)) (now (pairs .entry)) (now (weights .entry)) prev current) ⌝ }
     ensures { λ r. ⌜ natAbs r ≤ 2 * term ⌝ }
 {
     if ascii_pair {

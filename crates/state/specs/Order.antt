@@ -16,7 +16,7 @@ use Rattle.state.specs.declared.State.{State}
 -- at most two bytes, all ASCII, none 0x1B; what stands past them is not looked at
 pub record Saved (c : Context) : Type 0 where
   pub two : c .len ≤ 2
-  pub plain : any isTrigger (bytesOf c) ≡ false
+  pub triggerless : any isTrigger (bytesOf c) ≡ false
 
 -- no more than the bytes accepted, which are at most the limit
 pub record FrontFor (f : Front) : Type 0 where
@@ -30,11 +30,11 @@ pub record InOrder (s : State) : Type 0 where
   pub slate : SlateFor (s .front .bytes) (s .front .closed) (triggered (s .front)) (s .places)
 
 -- ---- the test
-unfoldable pub plainB : ℕ → Bool
-plainB b = not (isTrigger b)
+unfoldable pub triggerlessB : ℕ → Bool
+triggerlessB b = not (isTrigger b)
 
 unfoldable pub savedB : Context → Bool
-savedB c = leb (c .len) 2 && ((eqb (c .len) 0 || plainB (c .first)) && (ltb (c .len) 2 || plainB (c .second)))
+savedB c = leb (c .len) 2 && ((eqb (c .len) 0 || triggerlessB (c .first)) && (ltb (c .len) 2 || triggerlessB (c .second)))
 
 unfoldable pub frontB : Front → Bool
 frontB f = leb (f .bytes) limit && (leb (f .«non_ascii_seen») (f .bytes) && (leb (f .context .len) (f .bytes) && savedB (f .context)))

@@ -14,39 +14,39 @@ use Rattle.context.specs.Head.{isTrigger}
 use Rattle.context.specs.declared.Context.{Context}
 use Rattle.places.specs.OrderLaws.{slate-true, true-slate}
 use Rattle.places.specs.SlateLaws.{start-for}
-use Rattle.state.specs.Order.{Saved, FrontFor, InOrder, plainB, savedB, frontB, stateB}
+use Rattle.state.specs.Order.{Saved, FrontFor, InOrder, triggerlessB, savedB, frontB, stateB}
 use Rattle.state.specs.State.{triggered, startOf}
 use Rattle.state.specs.declared.State.{State}
 use Rattle.state.specs.declared.front.Front.{Front}
 
 -- ---- the test decides, in both directions
-plain-true : (b : ℕ) → plainB b ≡ true → isTrigger b ≡ false
-unfolding plainB
-plain-true b e = off (isTrigger b) e
+triggerless-true : (b : ℕ) → triggerlessB b ≡ true → isTrigger b ≡ false
+unfolding triggerlessB
+triggerless-true b e = off (isTrigger b) e
 
-true-plain : (b : ℕ) → isTrigger b ≡ false → plainB b ≡ true
-unfolding plainB
-true-plain b e = ap not e
+true-triggerless : (b : ℕ) → isTrigger b ≡ false → triggerlessB b ≡ true
+unfolding triggerlessB
+true-triggerless b e = ap not e
 
 -- the bytes of a context, by its length
-saved-at : (n a b : ℕ) → (eqb n 0 || plainB a) ≡ true → (ltb n 2 || plainB b) ≡ true → n ≤ 2 → any isTrigger (take n (a ∷ b ∷ [])) ≡ false
+saved-at : (n a b : ℕ) → (eqb n 0 || triggerlessB a) ≡ true → (ltb n 2 || triggerlessB b) ≡ true → n ≤ 2 → any isTrigger (take n (a ∷ b ∷ [])) ≡ false
 unfolding any
 saved-at zero a b p q h = refl
-saved-at (suc zero) a b p q h = rw (plain-true a p)
-saved-at (suc (suc zero)) a b p q h = rw (plain-true a p, plain-true b q)
+saved-at (suc zero) a b p q h = rw (triggerless-true a p)
+saved-at (suc (suc zero)) a b p q h = rw (triggerless-true a p, triggerless-true b q)
 saved-at (suc (suc (suc n))) a b p q h = absurd (omega (arith, h))
 
-first-at : (n a b : ℕ) → any isTrigger (take n (a ∷ b ∷ [])) ≡ false → (eqb n 0 || plainB a) ≡ true
+first-at : (n a b : ℕ) → any isTrigger (take n (a ∷ b ∷ [])) ≡ false → (eqb n 0 || triggerlessB a) ≡ true
 unfolding any
 first-at zero a b e = refl
-first-at (suc zero) a b e = true-plain a (neither (isTrigger a) _ e .0)
-first-at (suc (suc n)) a b e = rw (ne-eqb (suc (suc n)) 0 (λ (q : suc (suc n) ≡ 0). omega (arith, q))) (true-plain a (neither (isTrigger a) _ e .0))
+first-at (suc zero) a b e = true-triggerless a (neither (isTrigger a) _ e .0)
+first-at (suc (suc n)) a b e = rw (ne-eqb (suc (suc n)) 0 (λ (q : suc (suc n) ≡ 0). omega (arith, q))) (true-triggerless a (neither (isTrigger a) _ e .0))
 
-second-at : (n a b : ℕ) → any isTrigger (take n (a ∷ b ∷ [])) ≡ false → (ltb n 2 || plainB b) ≡ true
+second-at : (n a b : ℕ) → any isTrigger (take n (a ∷ b ∷ [])) ≡ false → (ltb n 2 || triggerlessB b) ≡ true
 unfolding any
 second-at zero a b e = refl
 second-at (suc zero) a b e = refl
-second-at (suc (suc n)) a b e = rw (le-ltb (suc (suc n)) 2 (omega arith)) (true-plain b (neither (isTrigger b) _ (neither (isTrigger a) _ e .1) .0))
+second-at (suc (suc n)) a b e = rw (le-ltb (suc (suc n)) 2 (omega arith)) (true-triggerless b (neither (isTrigger b) _ (neither (isTrigger a) _ e .1) .0))
 
 saved-true : (c : Context) → savedB c ≡ true → Saved c
 unfolding savedB
@@ -54,11 +54,11 @@ saved-true c e =
     let x = both _ _ e in
     let y = both _ _ (x .1) in
     let h = leb-true _ _ (x .0) in
-    record { two = h; plain = saved-at (c .len) (c .first) (c .second) (y .0) (y .1) h }
+    record { two = h; triggerless = saved-at (c .len) (c .first) (c .second) (y .0) (y .1) h }
 
 true-saved : (c : Context) → Saved c → savedB c ≡ true
 unfolding savedB
-true-saved c s = rw (le-leb _ _ (s .two), first-at (c .len) (c .first) (c .second) (s .plain), second-at (c .len) (c .first) (c .second) (s .plain))
+true-saved c s = rw (le-leb _ _ (s .two), first-at (c .len) (c .first) (c .second) (s .triggerless), second-at (c .len) (c .first) (c .second) (s .triggerless))
 
 front-true : (f : Front) → frontB f ≡ true → FrontFor f
 unfolding frontB
@@ -86,7 +86,7 @@ true-order s o = rw (true-front (s .front) (o .front), true-slate (s .front .byt
 -- ---- a start
 pub empty-saved : Saved (contextOf [])
 unfolding any
-empty-saved = record { two = omega arith; plain = refl }
+empty-saved = record { two = omega arith; triggerless = refl }
 
 pub start-in-order : (bits : ℕ) → InOrder (startOf bits)
 start-in-order bits = record { front = record { most = omega arith; counted = omega arith; held = omega arith; saved = empty-saved }; slate = start-for bits }

@@ -1,7 +1,7 @@
 // What is known of the bytes so far.
 ghost use mathlib.Core.Path.{_≡_};
 ghost use Rattle.state.specs.State.{fresh, flagOf, triggered};
-ghost use Rattle.state.specs.Order.{plainB, savedB, frontB};
+ghost use Rattle.state.specs.Order.{triggerlessB, savedB, frontB};
 use context::Context;
 
 pub struct Front {
@@ -51,8 +51,8 @@ impl Front {
 }
 
 // A byte that the context can save.
-fn is_plain(b: u8) -> bool
-    ensures { λ r. ⌜ r ≡ plainB b ⌝ }
+fn is_triggerless(b: u8) -> bool
+    ensures { λ r. ⌜ r ≡ triggerlessB b ⌝ }
 {
     b != 0x1B && !octets::is_non_ascii(b)
 }
@@ -68,5 +68,5 @@ fn is_saved(context: Context) -> bool
     if len == 0 {
         return true;
     }
-    is_plain(context.first) && (len < 2 || is_plain(context.second))
+    is_triggerless(context.first) && (len < 2 || is_triggerless(context.second))
 }

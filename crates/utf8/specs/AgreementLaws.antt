@@ -7,8 +7,8 @@ use native.Mathlib.Omega.{arith}
 use lib.Dec.{eqb}
 use borrow.Author.Tests.{ne-eqb, eqb-true, eqb-false}
 use Rattle.laws.specs.Tests.{either, through}
-use Rattle.laws.specs.Handler.{end-of-queue, byte, continue, code-point, error, after}
-use Rattle.laws.specs.Validator.{Verdict, at-start, on, outcomeBy, decoded, decodes}
+use Rattle.laws.specs.Handler.{end-of-queue, byte, continue, code-point, error, varsOf}
+use Rattle.laws.specs.Validator.{Verdict, at-start, on, outcomeBy, decodedBy, decodes}
 use Rattle.laws.specs.Run.{run, ended, alive, dropped}
 use Rattle.octets.specs.Octets.{between}
 use Rattle.utf8.specs.declared.Utf8.{Utf8}
@@ -23,10 +23,10 @@ data Held : Decoder → Type 0 where
   under-way : {seen needed lower upper : ℕ} → seen < needed → Sound (needs (needed - seen) lower upper) → Held (variables seen needed lower upper)
 
 abbrev HeldAfter : Verdict Decoder → Type 0
-HeldAfter r = Held (after r)
+HeldAfter r = Held (varsOf r)
 
 held-first : (b : ℕ) → HeldAfter (handler initial (byte b))
-unfolding handler after
+unfolding handler varsOf
 held-first b =
     either HeldAfter (between 0x00 0x7F b) (λ e. idle)
     (λ e. either HeldAfter (between 0xC2 0xDF b) (λ e. under-way {needed = 1} (omega arith) (plain (omega arith)))
@@ -43,7 +43,7 @@ module _ (seen needed lower upper : ℕ) (more : seen < needed) (few : needed - 
   goes-on = rw (ne-eqb needed 0 (λ (e : needed ≡ 0). omega arith))
 
   held-next : (t u : Bool) → eqb (seen + 1) needed ≡ u → HeldAfter (nextAs t u)
-  unfolding after
+  unfolding varsOf
   held-next true true e = idle
   held-next true false e = let n = eqb-false (seen + 1) needed e in under-way {seen = seen + 1} {needed = needed} (omega arith) (plain {n = needed - (seen + 1)} (omega arith))
   held-next false u e = idle
@@ -93,7 +93,7 @@ pub fresh-agrees : fresh ≡ recordOf initial
 fresh-agrees = refl
 
 -- Over a whole stream, closed, the machine is what the Standard's decoder is up to its first error.
-pub stream-agrees : (xs : List ℕ) → ended closeOf (run stepOf (alive fresh) xs) ≡ outcomeOf (decoded handler initial xs)
+pub stream-agrees : (xs : List ℕ) → ended closeOf (run stepOf (alive fresh) xs) ≡ outcomeOf (decodedBy handler initial xs)
 stream-agrees xs = decodes handler initial recordOf stepOf closeOf (λ (d : Decoder) (r : Reached d). (λ (b : ℕ). step-agrees d b r, close-agrees d r)) initial xs at-start
 
 -- ---- what the kind can hold is what the decoder can reach
@@ -109,7 +109,7 @@ abbrev pub Stands : Utf8 → Type 0
 Stands m = (d : Decoder) × (Reached d × (recordOf d ≡ m))
 
 plain-reached : (n : ℕ) → n ≤ 3 → Stands (needs n 0x80 0xBF)
-unfolding handler after
+unfolding handler varsOf
 plain-reached zero h = (_, (at-start, refl))
 plain-reached (suc zero) h = (_, (on at-start 0xC2, refl))
 plain-reached (suc (suc zero)) h = (_, (on at-start 0xE1, refl))
@@ -117,7 +117,7 @@ plain-reached (suc (suc (suc zero))) h = (_, (on at-start 0xF1, refl))
 plain-reached (suc (suc (suc (suc n)))) h = absurd (omega (arith, h))
 
 pub sound-reached : (m : Utf8) → Sound m → Stands m
-unfolding handler after
+unfolding handler varsOf
 sound-reached m (plain {n} h) = plain-reached n h
 sound-reached m after-E0 = (_, (on at-start 0xE0, refl))
 sound-reached m after-ED = (_, (on at-start 0xED, refl))

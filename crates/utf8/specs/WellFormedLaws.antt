@@ -12,7 +12,7 @@ use lib.ListN.{length}
 use borrow.Author.Tests.{ltb-true, ltb-false}
 use Rattle.laws.specs.Run.{Outcome, none, live, plus, run, run-append, run-nil, ended, alive, dropped}
 use Rattle.laws.specs.Still.{Lives, lives, lives-begun, from-zero, run-first, run-drops, none-live, plus-live, ended-live}
-use Rattle.laws.specs.Validator.{decoded}
+use Rattle.laws.specs.Validator.{decodedBy}
 use Rattle.laws.specs.Table.{and-left, and-right, every, nothing, within}
 use Rattle.octets.specs.Octets.{between}
 use Rattle.octets.specs.BetweenLaws.{between-low, between-high}
@@ -320,8 +320,8 @@ module _ (s : ℤ) (xs : List ℕ) where
 
 -- ---- so for the Standard's decoder over a whole stream: no error exactly if the bytes are whole well-formed sequences
 module _ (xs : List ℕ) where
-  pub text-decoded : Text xs → outcomeOf (decoded handler initial xs) ≡ alive fresh
+  pub text-decoded : Text xs → outcomeOf (decodedBy handler initial xs) ≡ alive fresh
   text-decoded t = sym (stream-agrees xs) ∙ text-closes (pos 0) xs t
 
-  pub decoded-text : Lives (outcomeOf (decoded handler initial xs)) → Text xs
+  pub decoded-text : Lives (outcomeOf (decodedBy handler initial xs)) → Text xs
   decoded-text l = closes-text (pos 0) xs (rw (← stream-agrees xs) at l)

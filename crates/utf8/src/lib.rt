@@ -128,7 +128,7 @@ impl Utf8 {
         Utf8::awaits(need - 1, Utf8::LOWER, Utf8::UPPER)
     }
 
-    fn feed(self, part: &[u8]) -> Ran
+    fn run_fit(self, part: &[u8]) -> Ran
         requires { ⌜ Sound self ⌝ }
         ensures { λ r. ⌜ r ≡ ranAs (run stepOf (alive self) (now (part .entry))) ⌝ }
     {
@@ -150,7 +150,7 @@ impl Utf8 {
     {
         if self.is_sound() {
             if part.len() <= lengths::MOST {
-                return self.feed(part);
+                return self.run_fit(part);
             }
         }
         Ran::Unfit

@@ -7,7 +7,7 @@ use Rattle.single.specs.Class.{caselessOf}
 use Rattle.single.specs.HeadLaws.{quietAt, is-ascii, not-255, no-letter}
 use Rattle.single.specs.Lent.{Lent}
 use Rattle.single.specs.Punctuation.{punctuationOf}
-use Rattle.visual.specs.Visual.{freshOf, stepOf}
+use Rattle.visual.specs.Visual.{fresh, stepOf}
 use Rattle.visual.specs.declared.Visual.{Visual}
 
 -- of quiet bytes the record holds the last one's class, and whether it is punctuation of class 0
@@ -19,5 +19,5 @@ module _ (t : Lent) where
   unfolding stepOf
   visual-quiet = record { steps = λ k b q. rw (is-ascii t b q, not-255 t b q, no-letter t b q); forgotten = λ k l a b. refl }
 
-  pub visual-forgets : Forgets (quietAt t) (stepOf t) freshOf
+  pub visual-forgets : Forgets (quietAt t) (stepOf t) fresh
   visual-forgets = forgets visual-quiet (0, false)

@@ -3,7 +3,7 @@ use mathlib.Core.Bool.{Bool, true, false, not, _&&_}
 use mathlib.Core.List.{List}
 use Prim.Native.Nat.{ℕ, _≤_}
 use lib.Dec.{leb}
-use Rattle.laws.specs.Answer.{Answer, ran, unfit, answered, SmallBy}
+use Rattle.laws.specs.Answer.{Answer, ran, unfit, answered, BoundedBy}
 use Rattle.laws.specs.Run.{Outcome, live, dropped}
 use Rattle.octets.specs.Octets.{ascii}
 use Rattle.single.specs.Class.{caselessOf, alphabetic, unless255}
@@ -18,8 +18,8 @@ use Rattle.visual.specs.declared.Visual.{Visual}
 use Rattle.visual.specs.declared.Ran.{Ran}
 use Rattle.visual.specs.declared.Ran.the-variants.{Live, Dropped, Unfit}
 
-abbrev pub freshOf : Visual
-freshOf = record { prev = 0; «prev_ascii» = true; «prev_punctuation» = false; «plausible_punctuation» = 0; «current_word_len» = 0; «longest_word» = 0 }
+abbrev pub fresh : Visual
+fresh = record { prev = 0; «prev_ascii» = true; «prev_punctuation» = false; «plausible_punctuation» = 0; «current_word_len» = 0; «longest_word» = 0 }
 
 -- an alphabetic class after ASCII punctuation of caseless class 0
 abbrev pub plausibleOf : Bool → Bool → Bool
@@ -71,5 +71,5 @@ unfoldable pub closedOf : Lent → Visual → Ran
 closedOf t m = closedBy stepOf (soundB room) Live Dropped Unfit t m
 
 -- a live answer's score changes by at most c
-abbrev pub Small : ℕ → Ran → Type 0
-Small c r = SmallBy c (answerOf r)
+abbrev pub Bounded : ℕ → Ran → Type 0
+Bounded c r = BoundedBy c (answerOf r)

@@ -23,28 +23,28 @@ pub data Weight : Type 0 where
   eucKrExtension : Weight
   longWord : Weight
 
-abbrev pub placeOf : Weight → ℕ
-placeOf case = 0
-placeOf latinAdjacency = 1
-placeOf cjkLatinAdjacency = 2
-placeOf cjPunctuation = 3
-placeOf cjkOther = 4
-placeOf big5Level1 = 5
-placeOf big5Other = 6
-placeOf big5Pua = 7
-placeOf big5Extension = 8
-placeOf eucHangul = 9
-placeOf nonEucHangul = 10
-placeOf hanja = 11
-placeOf hanjaAfterHangul = 12
-placeOf eucKrPua = 13
-placeOf macKorean = 14
-placeOf eucKrExtension = 15
-placeOf longWord = 16
+abbrev pub indexOf : Weight → ℕ
+indexOf case = 0
+indexOf latinAdjacency = 1
+indexOf cjkLatinAdjacency = 2
+indexOf cjPunctuation = 3
+indexOf cjkOther = 4
+indexOf big5Level1 = 5
+indexOf big5Other = 6
+indexOf big5Pua = 7
+indexOf big5Extension = 8
+indexOf eucHangul = 9
+indexOf nonEucHangul = 10
+indexOf hanja = 11
+indexOf hanjaAfterHangul = 12
+indexOf eucKrPua = 13
+indexOf macKorean = 14
+indexOf eucKrExtension = 15
+indexOf longWord = 16
 
 -- the weight, of a list that has them all
 abbrev pub weightOf : List ℤ → Weight → ℤ
-weightOf weights w = getD weights (placeOf w) (pos 0)
+weightOf weights w = getD weights (indexOf w) (pos 0)
 
 -- a weight's largest size, and what one byte adds to a score at most: five such terms
 abbrev pub term : ℕ

@@ -5,7 +5,7 @@ use Prim.Native.Nat.{_-_, _<_, _≤_}
 use native.Mathlib.Omega.{arith}
 use lib.ListN.{length, drop, length-drop}
 use borrow.Author.Needs.{needs}
-use Rattle.context.specs.HeadLaws.{scanFrom, scan-start, scan-done, turn-escape, turn-non-ascii, turn-quiet}
+use Rattle.context.specs.HeadLaws.{scanFrom, scan-start, scan-done, turn-escape, turn-non-ascii, turn-triggerless}
 use Rattle.context.proofs.scan.Statement.{statement}
 use Rattle.context.proofs.scan.Tie as tie
 
@@ -38,7 +38,7 @@ loop-again : tie.Need-loop-again Inv-loop μ-loop
 loop-again c =
     let e = c .before .before .before .before in
     let l = e .before in
-    (omega (arith, more e), turn-quiet (l .before .before .args .chunk .now) (l .loop .at) (more e) (c .before .before .if2 .left) (sym (c .before .is-non-ascii .ensures) ∙ c .if3 .left) ∙ l .loop .inv .1)
+    (omega (arith, more e), turn-triggerless (l .before .before .args .chunk .now) (l .loop .at) (more e) (c .before .before .if2 .left) (sym (c .before .is-non-ascii .ensures) ∙ c .if3 .left) ∙ l .loop .inv .1)
 
 returns : tie.Need-returns Inv-loop μ-loop
 returns c =

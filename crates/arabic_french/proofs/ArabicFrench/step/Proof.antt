@@ -57,8 +57,8 @@ gain-requires-2 c κs = search needs
 add-score : tie.Need-add-score
 add-score c = rw (read-pair c, read-case c) (sum-fits (pair c) (caseGain c) 4294967296 2147483648 (c .before .gain .ensures .1) (c .gain2 .ensures .1) (omega arith))
 
-after-requires : tie.Need-after-requires
-after-requires c κs = search needs
+after-class-requires : tie.Need-after-class-requires
+after-class-requires c κs = search needs
 
 is-ascii-requires : tie.Need-is-ascii-requires
 is-ascii-requires c κs = search needs
@@ -74,7 +74,7 @@ returns-2 c =
     let v = words-kept (w .words-after .result) (s .args .self .«current_word_len») (s .args .self .«longest_word») (a .is-non-latin-alphabetic .result) (omega (arith, s .pre .1 .word-most)) (w .words-after .ensures) in
     let p = rw (g .before .is-ascii-pair .ensures) at (g .gain .ensures .0) in
     let k = rw (g .before .is-ascii-pair .ensures) at (q .gain2 .ensures .0) in
-    (rw (ne-eqb _ _ (a .before .if1 .left), read-sum q, sums p k, c .before .after .ensures, c .is-ascii .ensures, v .0, v .1, a .is-non-latin-alphabetic .ensures), rw (read-sum q) (omega (arith, abs-add (pair q) (caseGain q), g .gain .ensures .1, q .gain2 .ensures .1)))
+    (rw (ne-eqb _ _ (a .before .if1 .left), read-sum q, sums p k, c .before .after-class .ensures, c .is-ascii .ensures, v .0, v .1, a .is-non-latin-alphabetic .ensures), rw (read-sum q) (omega (arith, abs-add (pair q) (caseGain q), g .gain .ensures .1, q .gain2 .ensures .1)))
 
 pub step-spec : {M : Type 1} → statement M
 step-spec =
@@ -88,6 +88,6 @@ step-spec =
     gain-requires
     gain-requires-2
     add-score
-    after-requires
+    after-class-requires
     is-ascii-requires
     returns-2)

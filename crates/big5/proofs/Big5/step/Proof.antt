@@ -3,7 +3,7 @@ use mathlib.Core.Path.{ap, _∙_}
 use native.Mathlib.Omega.{arith}
 use Rattle.laws.specs.Sizes.{thru64}
 use Rattle.weights.specs.Weights.{term}
-use Rattle.big5.specs.Scoring.{after as afterOf, otherOf, lent}
+use Rattle.big5.specs.Scoring.{afterByte, otherOf, lent}
 use Rattle.big5.specs.Ways.{step-on}
 use borrow.Author.Needs.{needs}
 use Rattle.big5.proofs.Big5.step.Statement.{statement}
@@ -24,8 +24,8 @@ enum-known-event c = search needs
 point-requires : tie.Need-point-requires
 point-requires c κs = search needs
 
-after-requires : tie.Need-after-requires
-after-requires c κs = search needs
+after-byte-requires : tie.Need-after-byte-requires
+after-byte-requires c κs = search needs
 
 enum-told-2 : tie.Need-enum-told-2
 enum-told-2 c = search needs
@@ -33,8 +33,8 @@ enum-told-2 c = search needs
 other-requires : tie.Need-other-requires
 other-requires c κs = search needs
 
-after-requires-2 : tie.Need-after-requires-2
-after-requires-2 c κs = search needs
+after-byte-requires-2 : tie.Need-after-byte-requires-2
+after-byte-requires-2 c κs = search needs
 
 enum-known-event-2 : tie.Need-enum-known-event-2
 enum-known-event-2 c = search needs
@@ -52,13 +52,13 @@ returns-2 : tie.Need-returns-2
 returns-2 c =
     let s = c .before .before .before .before .before .before .before in
     let d = c .before .before .before .before .before .decode in
-    c .after .ensures ∙ (ap (afterOf (d .result .lead) (s .args .b)) (c .before .point .ensures) ∙ step-on (lent (s .args .index .now) (s .args .w)) (s .args .self) (s .args .b) (d .result) (d .ensures) _ (c .before .before .before .event .given .1))
+    c .after-byte .ensures ∙ (ap (afterByte (d .result .lead) (s .args .b)) (c .before .point .ensures) ∙ step-on (lent (s .args .index .now) (s .args .w)) (s .args .self) (s .args .b) (d .result) (d .ensures) _ (c .before .before .before .event .given .1))
 
 returns-3 : tie.Need-returns-3
 returns-3 c =
     let s = c .before .before .before .before .before .before .before in
     let d = c .before .before .before .before .before .decode in
-    c .after2 .ensures ∙ (ap (afterOf (d .result .lead) (s .args .b)) (c .before .other .ensures ∙ ap (otherOf (s .args .self)) (thru64 (s .args .w .other) term (s .pre .0 .other) (omega arith))) ∙ step-on (lent (s .args .index .now) (s .args .w)) (s .args .self) (s .args .b) (d .result) (d .ensures) _ (c .before .before .before .enum-told2 .given .1))
+    c .after-byte2 .ensures ∙ (ap (afterByte (d .result .lead) (s .args .b)) (c .before .other .ensures ∙ ap (otherOf (s .args .self)) (thru64 (s .args .w .other) term (s .pre .0 .other) (omega arith))) ∙ step-on (lent (s .args .index .now) (s .args .w)) (s .args .self) (s .args .b) (d .result) (d .ensures) _ (c .before .before .before .enum-told2 .given .1))
 
 returns-4 : tie.Need-returns-4
 returns-4 c =
@@ -75,10 +75,10 @@ step-spec =
     pending-requires
     enum-known-event
     point-requires
-    after-requires
+    after-byte-requires
     enum-told-2
     other-requires
-    after-requires-2
+    after-byte-requires-2
     enum-known-event-2
     error-requires
     returns

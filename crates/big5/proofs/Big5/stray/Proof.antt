@@ -6,7 +6,7 @@ use native.Mathlib.Omega.{arith}
 use Rattle.laws.specs.Sizes.{thru64}
 use Rattle.weights.specs.Weights.{term}
 use Rattle.pairs.specs.declared.Held.the-variants.{Nothing}
-use Rattle.big5.specs.Scoring.{isExtension, scored, after as afterOf}
+use Rattle.big5.specs.Scoring.{isExtension, scored, afterByte}
 use Rattle.big5.specs.Ways.{extends-ascii, extends-ff, extends-not, stray-extends, stray-alone, stray-none}
 use Rattle.big5.specs.declared.LatinCj.the-variants.{Other}
 use borrow.Author.Needs.{needs}
@@ -19,36 +19,36 @@ is-extension-requires c κs = search needs
 extension-requires : tie.Need-extension-requires
 extension-requires c κs = search needs
 
-after-requires : tie.Need-after-requires
-after-requires c κs = search needs
+after-byte-requires : tie.Need-after-byte-requires
+after-byte-requires c κs = search needs
 
 returns : tie.Need-returns
 returns c =
     let s = c .before .before .before .before .before in
     let x : isExtension (s .args .self .«prev_byte») ≡ true = sym (c .before .before .before .before .is-extension .ensures) ∙ c .before .before .before .if1 .taken in
-    c .after .ensures ∙ (ap (afterOf (s .args .lead) (s .args .b)) (c .before .extension .ensures) ∙ stray-extends (s .args .w) (s .args .self) (s .args .lead) (s .args .b) (s .args .size) (extends-ascii (s .args .self .«prev_byte») (s .args .b) x (c .before .before .if2 .taken)))
+    c .after-byte .ensures ∙ (ap (afterByte (s .args .lead) (s .args .b)) (c .before .extension .ensures) ∙ stray-extends (s .args .w) (s .args .self) (s .args .lead) (s .args .b) (s .args .size) (extends-ascii (s .args .self .«prev_byte») (s .args .b) x (c .before .before .if2 .taken)))
 
 extension-requires-2 : tie.Need-extension-requires-2
 extension-requires-2 c κs = search needs
 
-after-requires-2 : tie.Need-after-requires-2
-after-requires-2 c κs = search needs
+after-byte-requires-2 : tie.Need-after-byte-requires-2
+after-byte-requires-2 c κs = search needs
 
 returns-2 : tie.Need-returns-2
 returns-2 c =
     let s = c .before .before .before .before .before .before in
     let x : isExtension (s .args .self .«prev_byte») ≡ true = sym (c .before .before .before .before .before .is-extension .ensures) ∙ c .before .before .before .before .if1 .taken in
-    c .after2 .ensures ∙ (ap (afterOf (s .args .lead) (s .args .b)) (c .before .extension2 .ensures) ∙ stray-extends (s .args .w) (s .args .self) (s .args .lead) (s .args .b) (s .args .size) (extends-ff (s .args .self .«prev_byte») (s .args .b) x (c .before .before .if3 .taken)))
+    c .after-byte2 .ensures ∙ (ap (afterByte (s .args .lead) (s .args .b)) (c .before .extension2 .ensures) ∙ stray-extends (s .args .w) (s .args .self) (s .args .lead) (s .args .b) (s .args .size) (extends-ff (s .args .self .«prev_byte») (s .args .b) x (c .before .before .if3 .taken)))
 
-after-requires-3 : tie.Need-after-requires-3
-after-requires-3 c κs = search needs
+after-byte-requires-3 : tie.Need-after-byte-requires-3
+after-byte-requires-3 c κs = search needs
 
 returns-3 : tie.Need-returns-3
 returns-3 c =
     let s = c .before .before .before .before .before .before in
     let j = c .before .before .before .before in
     let e = thru64 (s .args .w .extension) term (s .pre .extension) (omega arith) in
-    c .after3 .ensures ∙ (ap (λ z. afterOf (s .args .lead) (s .args .b) (scored Other Nothing z)) e ∙ stray-alone (s .args .w) (s .args .self) (s .args .lead) (s .args .b) (s .args .size) (extends-not (s .args .self .«prev_byte») (s .args .b) (⊎-elim (λ w. inl (sym (j .before .is-extension .ensures) ∙ w .0 .taken, w .1 .left, w .2 .left)) (λ w. inr (sym (j .before .is-extension .ensures) ∙ w .left)) (j .if1 .came))) (c .before .before .before .if4 .taken) (c .before .before .if5 .taken))
+    c .after-byte3 .ensures ∙ (ap (λ z. afterByte (s .args .lead) (s .args .b) (scored Other Nothing z)) e ∙ stray-alone (s .args .w) (s .args .self) (s .args .lead) (s .args .b) (s .args .size) (extends-not (s .args .self .«prev_byte») (s .args .b) (⊎-elim (λ w. inl (sym (j .before .is-extension .ensures) ∙ w .0 .taken, w .1 .left, w .2 .left)) (λ w. inr (sym (j .before .is-extension .ensures) ∙ w .left)) (j .if1 .came))) (c .before .before .before .if4 .taken) (c .before .before .if5 .taken))
 
 returns-4 : tie.Need-returns-4
 returns-4 c =
@@ -68,12 +68,12 @@ stray-spec =
     (tie.spec
     is-extension-requires
     extension-requires
-    after-requires
+    after-byte-requires
     returns
     extension-requires-2
-    after-requires-2
+    after-byte-requires-2
     returns-2
-    after-requires-3
+    after-byte-requires-3
     returns-3
     returns-4
     returns-5)

@@ -18,17 +18,17 @@ abbrev lent : tie.Start → Tables
 lent s = tables (s .args .classes4 .now) (s .args .marks4 .now) (s .args .pairs4 .now) (s .args .classes5 .now) (s .args .marks5 .now) (s .args .pairs5 .now) (s .args .classes6 .now) (s .args .marks6 .now) (s .args .pairs6 .now) (s .args .classes7 .now) (s .args .marks7 .now) (s .args .pairs7 .now) (s .args .big5 .now) (s .args .euckr .now) (s .args .jis .now) (s .args .extras .now) (s .args .weights .now)
 
 -- the front after the chunk, uncounted
-module _ (c : tie.After-after) where
+module _ (c : tie.After-uncounted) where
   abbrev first : tie.Start
   first = c .before .before .before .before .before .before .before .before .before .before .before .before .before .before .before .before
 
-  after-is : c .after .result ≡ uncounted (first .args .state .front) (first .args .chunk .now) (first .args .last) (triggerOf (first .args .state .front) (first .args .chunk .now))
-  after-is = rw (c .before .trigger-in .ensures) at (c .after .ensures)
+  uncounted-is : c .uncounted .result ≡ uncounted (first .args .state .front) (first .args .chunk .now) (first .args .last) (triggerOf (first .args .state .front) (first .args .chunk .now))
+  uncounted-is = rw (c .before .trigger-in .ensures) at (c .uncounted .ensures)
 
-  roomy : (part : List ℕ) → length part ≤ length (first .args .chunk .now) → Roomy (c .after .result) (length part)
+  roomy : (part : List ℕ) → length part ≤ length (first .args .chunk .now) → Roomy (c .uncounted .result) (length part)
   roomy part h =
       let f = first .pre in
-      rw after-is (record { accepted = f .short; seen = omega (arith, f .in-order .front .counted, f .in-order .front .most); short = omega (arith, f .short) })
+      rw uncounted-is (record { accepted = f .short; seen = omega (arith, f .in-order .front .counted, f .in-order .front .most); short = omega (arith, f .short) })
 
 due-is : (c : tie.After-due-by) → DueBy (first (c .before) .args .state .front .context) (triggerOf (first (c .before) .args .state .front) (first (c .before) .args .chunk .now)) (c .due-by .result)
 due-is c = rw (c .before .before .trigger-in .ensures) at (c .due-by .ensures .0)
@@ -39,8 +39,8 @@ from-within c = let s = c .before .before .before .before .before .before .befor
 trigger-in-requires : tie.Need-trigger-in-requires
 trigger-in-requires c κs = search needs
 
-after-requires : tie.Need-after-requires
-after-requires c κs = let f = c .before .before .before .before .before .before .before .before .before .before .before .before .before .before .before .pre in record { accepted = f .in-order .front .most; seen = omega (arith, f .in-order .front .counted, f .in-order .front .most); short = omega (arith, f .short) }
+uncounted-requires : tie.Need-uncounted-requires
+uncounted-requires c κs = let f = c .before .before .before .before .before .before .before .before .before .before .before .before .before .before .before .pre in record { accepted = f .in-order .front .most; seen = omega (arith, f .in-order .front .counted, f .in-order .front .most); short = omega (arith, f .short) }
 
 due-by-requires : tie.Need-due-by-requires
 due-by-requires c κs = search needs
@@ -88,20 +88,20 @@ counted-requires-2 : tie.Need-counted-requires-2
 counted-requires-2 c κs = roomy (c .before .before .before .before .before .before .before .before .before .before .before) (c .before .before .before .before .before .before .before .before .before .before .before .before .before .before .before .before .before .before .before .before .before .before .before .before .before .before .before .args .chunk .now) (omega arith)
 
 returns : tie.Need-returns
-returns c = let s = c .before .before .before .before .before .before .before .before .before .before .before .before .before .before .before .before .before .before .before in way-nothing (lent s) (s .args .state) (s .args .chunk .now) (s .args .last) (s .pre) (c .before .before .due-by .result) (due-is (c .before .before)) (c .enum-told .given .1) (c .before .before .before .after .result) (after-is (c .before .before .before))
+returns c = let s = c .before .before .before .before .before .before .before .before .before .before .before .before .before .before .before .before .before .before .before in way-nothing (lent s) (s .args .state) (s .args .chunk .now) (s .args .last) (s .pre) (c .before .before .due-by .result) (due-is (c .before .before)) (c .enum-told .given .1) (c .before .before .before .uncounted .result) (uncounted-is (c .before .before .before))
 
 returns-2 : tie.Need-returns-2
-returns-2 c = let s = c .before .before .before .before .before .before .before .before .before .before .before .before .before .before .before .before .before .before .before .before .before .before .before .before in let n = c .before .before .before .before .before .from .given .0 .0 in way-part (lent s) (s .args .state) (s .args .chunk .now) (s .args .last) (s .pre) (c .before .before .before .before .before .before .before .due-by .result) (due-is (c .before .before .before .before .before .before .before)) n (c .before .before .before .before .before .from .given .1) (take (length (s .args .chunk .now) - n) (drop n (s .args .chunk .now))) (rest-is n (s .args .chunk .now)) (c .before .before .before .before .before .before .before .before .after .result) (c .counted .result) (c .before .before .feed .result) (after-is (c .before .before .before .before .before .before .before .before)) (c .counted .ensures) (c .before .before .feed .ensures .0) (c .before .before .feed .ensures .1)
+returns-2 c = let s = c .before .before .before .before .before .before .before .before .before .before .before .before .before .before .before .before .before .before .before .before .before .before .before .before in let n = c .before .before .before .before .before .from .given .0 .0 in way-part (lent s) (s .args .state) (s .args .chunk .now) (s .args .last) (s .pre) (c .before .before .before .before .before .before .before .due-by .result) (due-is (c .before .before .before .before .before .before .before)) n (c .before .before .before .before .before .from .given .1) (take (length (s .args .chunk .now) - n) (drop n (s .args .chunk .now))) (rest-is n (s .args .chunk .now)) (c .before .before .before .before .before .before .before .before .uncounted .result) (c .counted .result) (c .before .before .feed .result) (uncounted-is (c .before .before .before .before .before .before .before .before)) (c .counted .ensures) (c .before .before .feed .ensures .0) (c .before .before .feed .ensures .1)
 
 returns-3 : tie.Need-returns-3
-returns-3 c = let s = c .before .before .before .before .before .before .before .before .before .before .before .before .before .before .before .before .before .before .before .before .before .before .before .before .before .before .before .before in let k = c .before .before .before .before .before .before .before .before .before .count .given .0 .0 in let q = c .before .before .before .before .before .before .before .before .before .count .given .1 in way-after (lent s) (s .args .state) (s .args .chunk .now) (s .args .last) (s .pre) (c .before .before .before .before .before .before .before .before .before .before .before .due-by .result) (due-is (c .before .before .before .before .before .before .before .before .before .before .before)) k q (after-within (s .args .state .front) (s .args .chunk .now) (c .before .before .before .before .before .before .before .before .before .before .before .before .before .trigger-in .result) (c .before .before .before .before .before .before .before .before .before .before .before .before .before .trigger-in .ensures) (c .before .before .before .before .before .before .before .before .before .before .before .due-by .result) (c .before .before .before .before .before .before .before .before .before .before .before .due-by .ensures .1) k q .1) (after-new (s .args .state .front) (s .args .chunk .now) (c .before .before .before .before .before .before .before .before .before .before .before .before .before .trigger-in .result) (c .before .before .before .before .before .before .before .before .before .before .before .before .before .trigger-in .ensures) (c .before .before .before .before .before .before .before .before .before .before .before .due-by .result) (c .before .before .before .before .before .before .before .before .before .before .before .due-by .ensures .1) k q) (take k (c .before .before .before .before .before .before .bytes .result)) (ap (take k) (c .before .before .before .before .before .before .bytes .ensures)) (c .before .before .before .before .before .before .before .before .before .before .before .before .after .result) (c .counted2 .result) (c .before .before .before .before .feed2 .result) (c .before .before .feed3 .result) (after-is (c .before .before .before .before .before .before .before .before .before .before .before .before)) (c .counted2 .ensures) (c .before .before .before .before .feed2 .ensures .0) (c .before .before .before .before .feed2 .ensures .1) (c .before .before .feed3 .ensures .0) (c .before .before .feed3 .ensures .1)
+returns-3 c = let s = c .before .before .before .before .before .before .before .before .before .before .before .before .before .before .before .before .before .before .before .before .before .before .before .before .before .before .before .before in let k = c .before .before .before .before .before .before .before .before .before .count .given .0 .0 in let q = c .before .before .before .before .before .before .before .before .before .count .given .1 in way-after (lent s) (s .args .state) (s .args .chunk .now) (s .args .last) (s .pre) (c .before .before .before .before .before .before .before .before .before .before .before .due-by .result) (due-is (c .before .before .before .before .before .before .before .before .before .before .before)) k q (after-within (s .args .state .front) (s .args .chunk .now) (c .before .before .before .before .before .before .before .before .before .before .before .before .before .trigger-in .result) (c .before .before .before .before .before .before .before .before .before .before .before .before .before .trigger-in .ensures) (c .before .before .before .before .before .before .before .before .before .before .before .due-by .result) (c .before .before .before .before .before .before .before .before .before .before .before .due-by .ensures .1) k q .1) (after-new (s .args .state .front) (s .args .chunk .now) (c .before .before .before .before .before .before .before .before .before .before .before .before .before .trigger-in .result) (c .before .before .before .before .before .before .before .before .before .before .before .before .before .trigger-in .ensures) (c .before .before .before .before .before .before .before .before .before .before .before .due-by .result) (c .before .before .before .before .before .before .before .before .before .before .before .due-by .ensures .1) k q) (take k (c .before .before .before .before .before .before .bytes .result)) (ap (take k) (c .before .before .before .before .before .before .bytes .ensures)) (c .before .before .before .before .before .before .before .before .before .before .before .before .uncounted .result) (c .counted2 .result) (c .before .before .before .before .feed2 .result) (c .before .before .feed3 .result) (uncounted-is (c .before .before .before .before .before .before .before .before .before .before .before .before)) (c .counted2 .ensures) (c .before .before .before .before .feed2 .ensures .0) (c .before .before .before .before .feed2 .ensures .1) (c .before .before .feed3 .ensures .0) (c .before .before .feed3 .ensures .1)
 
 pub advance-spec : {M : Type 1} → statement M
 advance-spec =
     tie.close
     (tie.spec
     trigger-in-requires
-    after-requires
+    uncounted-requires
     due-by-requires
     enum-told
     enum-known-from

@@ -3,7 +3,7 @@ use mathlib.Core.Path.{_≡_, sym, _∙_}
 use lib.ListN.{length}
 use Rattle.tables.specs.Tables.{Tables, tables, sizedB}
 use Rattle.detector.specs.Feed.{refusalOf}
-use Rattle.detector.specs.FeedLaws.{refused-stays, accept-fit, feed-refused, feed-accepted}
+use Rattle.detector.specs.FeedLaws.{refused-stays, accept-passed, feed-refused, feed-accepted}
 use borrow.Author.Needs.{needs}
 use Rattle.detector.proofs.feed.feed.Statement.{statement}
 use Rattle.detector.proofs.feed.feed.Tie as tie
@@ -27,7 +27,7 @@ enum-told : tie.Need-enum-told
 enum-told c = search needs
 
 advance-requires : tie.Need-advance-requires
-advance-requires c κs = let s = c .before .before .before .before .before .before .before .before .before .before .before .before .before .before .before .before in accept-fit (lent s) (s .args .state) (s .args .chunk .now) (sym (c .enum-told .given .1) ∙ verdict (c .before .before))
+advance-requires c κs = let s = c .before .before .before .before .before .before .before .before .before .before .before .before .before .before .before .before in accept-passed (lent s) (s .args .state) (s .args .chunk .now) (sym (c .enum-told .given .1) ∙ verdict (c .before .before))
 
 accepted-requires : tie.Need-accepted-requires
 accepted-requires c κs = search needs

@@ -1,7 +1,7 @@
 -- `EucKr::step` meets its contract.
 use mathlib.Core.Path.{ap, _∙_}
 use native.Mathlib.Omega.{arith}
-use Rattle.euckr.specs.Scoring.{after as afterOf, lent}
+use Rattle.euckr.specs.Scoring.{afterByte, lent}
 use Rattle.euckr.specs.Ways.{step-on}
 use Rattle.euckr.specs.EucKrLaws.{error-slight}
 use borrow.Author.Needs.{needs}
@@ -23,8 +23,8 @@ enum-known-event c = search needs
 unit-requires : tie.Need-unit-requires
 unit-requires c κs = search needs
 
-after-requires : tie.Need-after-requires
-after-requires c κs = search needs
+after-byte-requires : tie.Need-after-byte-requires
+after-byte-requires c κs = search needs
 
 enum-known-event-2 : tie.Need-enum-known-event-2
 enum-known-event-2 c = search needs
@@ -32,8 +32,8 @@ enum-known-event-2 c = search needs
 unit-requires-2 : tie.Need-unit-requires-2
 unit-requires-2 c κs = search needs
 
-after-requires-2 : tie.Need-after-requires-2
-after-requires-2 c κs = search needs
+after-byte-requires-2 : tie.Need-after-byte-requires-2
+after-byte-requires-2 c κs = search needs
 
 enum-known-event-3 : tie.Need-enum-known-event-3
 enum-known-event-3 c = search needs
@@ -51,13 +51,13 @@ returns-2 : tie.Need-returns-2
 returns-2 c =
     let s = c .before .before .before .before .before .before .before in
     let d = c .before .before .before .before .before .decode in
-    (c .after .ensures ∙ (ap (afterOf (d .result .lead) (s .args .b)) (c .before .unit .ensures .0) ∙ step-on (lent (s .args .index .now) (s .args .extras .now) (s .args .w)) (s .args .self) (s .args .b) (d .result) (d .ensures) _ (c .before .before .before .event .given .1)), rw (c .after .ensures) (c .before .unit .ensures .1))
+    (c .after-byte .ensures ∙ (ap (afterByte (d .result .lead) (s .args .b)) (c .before .unit .ensures .0) ∙ step-on (lent (s .args .index .now) (s .args .extras .now) (s .args .w)) (s .args .self) (s .args .b) (d .result) (d .ensures) _ (c .before .before .before .event .given .1)), rw (c .after-byte .ensures) (c .before .unit .ensures .1))
 
 returns-3 : tie.Need-returns-3
 returns-3 c =
     let s = c .before .before .before .before .before .before .before in
     let d = c .before .before .before .before .before .decode in
-    (c .after2 .ensures ∙ (ap (afterOf (d .result .lead) (s .args .b)) (c .before .unit2 .ensures .0) ∙ step-on (lent (s .args .index .now) (s .args .extras .now) (s .args .w)) (s .args .self) (s .args .b) (d .result) (d .ensures) _ (c .before .before .before .event2 .given .1)), rw (c .after2 .ensures) (c .before .unit2 .ensures .1))
+    (c .after-byte2 .ensures ∙ (ap (afterByte (d .result .lead) (s .args .b)) (c .before .unit2 .ensures .0) ∙ step-on (lent (s .args .index .now) (s .args .extras .now) (s .args .w)) (s .args .self) (s .args .b) (d .result) (d .ensures) _ (c .before .before .before .event2 .given .1)), rw (c .after-byte2 .ensures) (c .before .unit2 .ensures .1))
 
 returns-4 : tie.Need-returns-4
 returns-4 c =
@@ -74,10 +74,10 @@ step-spec =
     pending-requires
     enum-known-event
     unit-requires
-    after-requires
+    after-byte-requires
     enum-known-event-2
     unit-requires-2
-    after-requires-2
+    after-byte-requires-2
     enum-known-event-3
     error-requires
     returns

@@ -5,8 +5,8 @@ use borrow.Author.Needs.{needs}
 use Rattle.lines.proofs.show.place.Statement.{statement}
 use Rattle.lines.proofs.show.place.Tie as tie
 
-kind-requires : tie.Need-kind-requires
-kind-requires c κs = search needs
+place-number-requires : tie.Need-place-number-requires
+place-number-requires c κs = search needs
 
 place-requires : tie.Need-place-requires
 place-requires c κs = search needs
@@ -19,7 +19,7 @@ same-length c = search needs
 
 returns : tie.Need-returns
 unfolding placeText
-returns c = follow _ _ _ (rw (c .before .before .before .before .before .before .before .kind .ensures) at (c .before .before .before .before .before .before .place .ensures)) (c .before .before .scored .ensures)
+returns c = follow _ _ _ (rw (c .before .before .before .before .before .before .before .place-number .ensures) at (c .before .before .before .before .before .before .place .ensures)) (c .before .before .scored .ensures)
 
 pub place-spec : {M : Type 1} → statement M
-place-spec = tie.close (tie.spec kind-requires place-requires scored-requires same-length returns)
+place-spec = tie.close (tie.spec place-number-requires place-requires scored-requires same-length returns)

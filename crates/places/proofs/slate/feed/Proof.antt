@@ -2,7 +2,7 @@
 use mathlib.Core.Path.{sym, _∙_}
 use Rattle.laws.specs.Tests.{off, on}
 use Rattle.tables.specs.Tables.{Tables, tables}
-use Rattle.places.specs.SlateLaws.{slated-long, slated-order, slated-length, slated-fed, fit-parts}
+use Rattle.places.specs.SlateLaws.{slated-long, slated-order, slated-length, slated-fed, feedable-parts}
 use borrow.Author.Needs.{needs}
 use Rattle.places.proofs.slate.feed.Statement.{statement}
 use Rattle.places.proofs.slate.feed.Tie as tie
@@ -28,13 +28,13 @@ returns-3 c = let s = c .before .before .before .before .before .before .before 
 feed-each-requires : tie.Need-feed-each-requires
 feed-each-requires c κs =
     let s = c .before .before .before .before .before .before .before .before .before .before .before .before .before .before .before .before .before in
-    let f = fit-parts (lent s) (s .args .part .now) (s .args .places) (c .before .before .before .before .if1 .left) (sym (c .before .before .before .are-in-order .ensures) ∙ on _ (c .before .before .if2 .left)) (sym (c .before .are-sized .ensures) ∙ on _ (c .if3 .left)) in
+    let f = feedable-parts (lent s) (s .args .part .now) (s .args .places) (c .before .before .before .before .if1 .left) (sym (c .before .before .before .are-in-order .ensures) ∙ on _ (c .before .before .if2 .left)) (sym (c .before .are-sized .ensures) ∙ on _ (c .if3 .left)) in
     (f .sized, (f .slate, f .short))
 
 returns-4 : tie.Need-returns-4
 returns-4 c =
     let s = c .before .before .before .before .before .before .before .before .before .before .before .before .before .before .before .before .before .before in
-    let f = fit-parts (lent s) (s .args .part .now) (s .args .places) (c .before .before .before .before .before .if1 .left) (sym (c .before .before .before .before .are-in-order .ensures) ∙ on _ (c .before .before .before .if2 .left)) (sym (c .before .before .are-sized .ensures) ∙ on _ (c .before .if3 .left)) in
+    let f = feedable-parts (lent s) (s .args .part .now) (s .args .places) (c .before .before .before .before .before .if1 .left) (sym (c .before .before .before .before .are-in-order .ensures) ∙ on _ (c .before .before .before .if2 .left)) (sym (c .before .before .are-sized .ensures) ∙ on _ (c .before .if3 .left)) in
     (rw (c .feed-each .ensures .0) (slated-fed (lent s) (s .args .part .now) (s .args .places) (s .args .last) f), c .feed-each .ensures .1)
 
 pub feed-spec : {M : Type 1} → statement M

@@ -1,4 +1,4 @@
--- `Visual::run` meets its contract: one test, then `feed` over all of what is lent.
+-- `Visual::run` meets its contract: one test, then `run_fit` over all of what is lent.
 use mathlib.Core.Path.{_≡_, sym, _∙_}
 use Prim.Native.Nat.{_%_}
 use native.Mathlib.Nat.{mod-eq-of-lt}
@@ -26,7 +26,7 @@ module _ (c : tie.After-is-fit) where
   tested : fitB tables (soundB room (start .args .self)) (length (start .args .part .now)) ≡ c .is-fit .result
   tested = sym (rw (c .before .is-sound-for .ensures) at (c .is-fit .ensures))
 
--- it was passed, so what `feed` is given is the record, and all of each table
+-- it was passed, so what `run_fit` is given is the record, and all of each table
 module _ (c : tie.Then1) where
   fit : Fit (tables (c .before)) (Sound room (start (c .before) .args .self)) (length (start (c .before) .args .part .now))
   fit = fit-true (tables (c .before)) _ _ _ (sound-true room (start (c .before) .args .self)) (tested (c .before) ∙ c .if1 .taken)
@@ -40,35 +40,35 @@ is-sound-for-requires c κs = search needs
 is-fit-requires : tie.Need-is-fit-requires
 is-fit-requires c κs = search needs
 
-sub-feed : tie.Need-sub-feed
-sub-feed c = search needs
+sub-run-fit : tie.Need-sub-run-fit
+sub-run-fit c = search needs
 
-part-feed-start : tie.Need-part-feed-start
-part-feed-start c = search needs
+part-run-fit-start : tie.Need-part-run-fit-start
+part-run-fit-start c = search needs
 
-part-feed-end : tie.Need-part-feed-end
-part-feed-end c = omega (arith, fit (c .before) .sized .marks-length)
+part-run-fit-end : tie.Need-part-run-fit-end
+part-run-fit-end c = omega (arith, fit (c .before) .sized .marks-length)
 
-sub-feed-2 : tie.Need-sub-feed-2
-sub-feed-2 c = search needs
+sub-run-fit-2 : tie.Need-sub-run-fit-2
+sub-run-fit-2 c = search needs
 
-part-feed-start-2 : tie.Need-part-feed-start-2
-part-feed-start-2 c = search needs
+part-run-fit-start-2 : tie.Need-part-run-fit-start-2
+part-run-fit-start-2 c = search needs
 
-part-feed-end-2 : tie.Need-part-feed-end-2
-part-feed-end-2 c = omega (arith, fit (c .before .before) .sized .pairs-length)
+part-run-fit-end-2 : tie.Need-part-run-fit-end-2
+part-run-fit-end-2 c = omega (arith, fit (c .before .before) .sized .pairs-length)
 
-sub-feed-3 : tie.Need-sub-feed-3
-sub-feed-3 c = search needs
+sub-run-fit-3 : tie.Need-sub-run-fit-3
+sub-run-fit-3 c = search needs
 
-part-feed-start-3 : tie.Need-part-feed-start-3
-part-feed-start-3 c = search needs
+part-run-fit-start-3 : tie.Need-part-run-fit-start-3
+part-run-fit-start-3 c = search needs
 
-part-feed-end-3 : tie.Need-part-feed-end-3
-part-feed-end-3 c = omega (arith, fit (c .before .before .before) .sized .weights-length)
+part-run-fit-end-3 : tie.Need-part-run-fit-end-3
+part-run-fit-end-3 c = omega (arith, fit (c .before .before .before) .sized .weights-length)
 
-feed-requires : tie.Need-feed-requires
-feed-requires c κs =
+run-fit-requires : tie.Need-run-fit-requires
+run-fit-requires c κs =
     let t = c .before .before .before .before in
     let o = fit t .sized in
     rw (prev-is t, marks-whole (tables (t .before)) o, pairs-whole (tables (t .before)) o, weights-whole (tables (t .before)) o) (fit t)
@@ -78,8 +78,8 @@ unfolding ranOf
 returns c =
     let t = c .before .before .before .before .before in
     let o = fit t .sized in
-    let e = rw (prev-is t, marks-whole (tables (t .before)) o, pairs-whole (tables (t .before)) o, weights-whole (tables (t .before)) o) at (c .feed .ensures .0) in
-    (e ∙ sym (ran-if-fit _ _ _ _ _ _ _ _ (tested (t .before) ∙ t .if1 .taken)), c .feed .ensures .1)
+    let e = rw (prev-is t, marks-whole (tables (t .before)) o, pairs-whole (tables (t .before)) o, weights-whole (tables (t .before)) o) at (c .run-fit .ensures .0) in
+    (e ∙ sym (ran-if-fit _ _ _ _ _ _ _ _ (tested (t .before) ∙ t .if1 .taken)), c .run-fit .ensures .1)
 
 returns-2 : tie.Need-returns-2
 unfolding ranOf
@@ -91,15 +91,15 @@ run-spec =
     (tie.spec
     is-sound-for-requires
     is-fit-requires
-    sub-feed
-    part-feed-start
-    part-feed-end
-    sub-feed-2
-    part-feed-start-2
-    part-feed-end-2
-    sub-feed-3
-    part-feed-start-3
-    part-feed-end-3
-    feed-requires
+    sub-run-fit
+    part-run-fit-start
+    part-run-fit-end
+    sub-run-fit-2
+    part-run-fit-start-2
+    part-run-fit-end-2
+    sub-run-fit-3
+    part-run-fit-start-3
+    part-run-fit-end-3
+    run-fit-requires
     returns
     returns-2)

@@ -1,7 +1,7 @@
 -- `Machine::close` meets its contract.
 use Rattle.weights.specs.Weights.{perByte}
 use Rattle.kinds.specs.Kinds.{closedOf}
-use Rattle.kinds.specs.KindsLaws.{small-utf-8, small-iso2022jp, small-euckr, small-big5, small-caseless, small-logical, small-visual, small-arabicFrench, closed-euckr, closed-big5}
+use Rattle.kinds.specs.KindsLaws.{bounded-utf-8, bounded-iso2022jp, bounded-euckr, bounded-big5, bounded-caseless, bounded-logical, bounded-visual, bounded-arabicFrench, closed-euckr, closed-big5}
 use borrow.Author.Needs.{needs}
 use Rattle.kinds.proofs.machine.Machine.close.Statement.{statement}
 use Rattle.kinds.proofs.machine.Machine.close.Tie as tie
@@ -80,35 +80,35 @@ of-arabic-french-requires c κs = search needs
 
 returns : tie.Need-returns
 unfolding closedOf
-returns c = (rw (c .of-utf8 .ensures, c .before .close .ensures, c .before .before .before .self .given .1), rw (c .of-utf8 .ensures) (small-utf-8 perByte (c .before .close .result)))
+returns c = (rw (c .of-utf8 .ensures, c .before .close .ensures, c .before .before .before .self .given .1), rw (c .of-utf8 .ensures) (bounded-utf-8 perByte (c .before .close .result)))
 
 returns-2 : tie.Need-returns-2
 unfolding closedOf
-returns-2 c = (rw (c .of-iso2022jp .ensures, c .before .close2 .ensures, c .before .before .before .self2 .given .1), rw (c .of-iso2022jp .ensures) (small-iso2022jp perByte (c .before .close2 .result)))
+returns-2 c = (rw (c .of-iso2022jp .ensures, c .before .close2 .ensures, c .before .before .before .self2 .given .1), rw (c .of-iso2022jp .ensures) (bounded-iso2022jp perByte (c .before .close2 .result)))
 
 returns-3 : tie.Need-returns-3
 unfolding closedOf
-returns-3 c = (rw (c .of-euckr .ensures, c .before .close3 .ensures, c .before .before .before .self3 .given .1), rw (c .of-euckr .ensures) (small-euckr perByte (c .before .close3 .result) (rw (c .before .close3 .ensures) (closed-euckr perByte (c .before .before .before .self3 .given .0 .0)))))
+returns-3 c = (rw (c .of-euckr .ensures, c .before .close3 .ensures, c .before .before .before .self3 .given .1), rw (c .of-euckr .ensures) (bounded-euckr perByte (c .before .close3 .result) (rw (c .before .close3 .ensures) (closed-euckr perByte (c .before .before .before .self3 .given .0 .0)))))
 
 returns-4 : tie.Need-returns-4
 unfolding closedOf
-returns-4 c = (rw (c .of-big5 .ensures, c .before .close4 .ensures, c .before .before .before .self4 .given .1), rw (c .of-big5 .ensures) (small-big5 perByte (c .before .close4 .result) (rw (c .before .close4 .ensures) (closed-big5 perByte (c .before .before .before .self4 .given .0 .0)))))
+returns-4 c = (rw (c .of-big5 .ensures, c .before .close4 .ensures, c .before .before .before .self4 .given .1), rw (c .of-big5 .ensures) (bounded-big5 perByte (c .before .close4 .result) (rw (c .before .close4 .ensures) (closed-big5 perByte (c .before .before .before .self4 .given .0 .0)))))
 
 returns-5 : tie.Need-returns-5
 unfolding closedOf
-returns-5 c = (rw (c .of-caseless .ensures, c .before .close5 .ensures .0, c .before .before .before .self5 .given .1), rw (c .of-caseless .ensures) (small-caseless perByte (c .before .close5 .result) (c .before .close5 .ensures .1)))
+returns-5 c = (rw (c .of-caseless .ensures, c .before .close5 .ensures .0, c .before .before .before .self5 .given .1), rw (c .of-caseless .ensures) (bounded-caseless perByte (c .before .close5 .result) (c .before .close5 .ensures .1)))
 
 returns-6 : tie.Need-returns-6
 unfolding closedOf
-returns-6 c = (rw (c .of-logical .ensures, c .before .close6 .ensures .0, c .before .before .before .self6 .given .1), rw (c .of-logical .ensures) (small-logical perByte (c .before .close6 .result) (c .before .close6 .ensures .1)))
+returns-6 c = (rw (c .of-logical .ensures, c .before .close6 .ensures .0, c .before .before .before .self6 .given .1), rw (c .of-logical .ensures) (bounded-logical perByte (c .before .close6 .result) (c .before .close6 .ensures .1)))
 
 returns-7 : tie.Need-returns-7
 unfolding closedOf
-returns-7 c = (rw (c .of-visual .ensures, c .before .close7 .ensures .0, c .before .before .before .self7 .given .1), rw (c .of-visual .ensures) (small-visual perByte (c .before .close7 .result) (c .before .close7 .ensures .1)))
+returns-7 c = (rw (c .of-visual .ensures, c .before .close7 .ensures .0, c .before .before .before .self7 .given .1), rw (c .of-visual .ensures) (bounded-visual perByte (c .before .close7 .result) (c .before .close7 .ensures .1)))
 
 returns-8 : tie.Need-returns-8
 unfolding closedOf
-returns-8 c = (rw (c .of-arabic-french .ensures, c .before .close8 .ensures .0, c .before .before .before .self8 .given .1), rw (c .of-arabic-french .ensures) (small-arabicFrench perByte (c .before .close8 .result) (c .before .close8 .ensures .1)))
+returns-8 c = (rw (c .of-arabic-french .ensures, c .before .close8 .ensures .0, c .before .before .before .self8 .given .1), rw (c .of-arabic-french .ensures) (bounded-arabicFrench perByte (c .before .close8 .result) (c .before .close8 .ensures .1)))
 
 pub close-spec : {M : Type 1} → statement M
 close-spec =

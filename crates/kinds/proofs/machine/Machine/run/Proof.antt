@@ -3,7 +3,7 @@ use Prim.Native.Nat.{_*_}
 use lib.ListN.{length}
 use Rattle.weights.specs.Weights.{perByte}
 use Rattle.kinds.specs.Kinds.{ranOf}
-use Rattle.kinds.specs.KindsLaws.{small-utf-8, small-iso2022jp, small-euckr, small-big5, small-caseless, small-logical, small-visual, small-arabicFrench, weighed-euckr, weighed-big5, weighed-other}
+use Rattle.kinds.specs.KindsLaws.{bounded-utf-8, bounded-iso2022jp, bounded-euckr, bounded-big5, bounded-caseless, bounded-logical, bounded-visual, bounded-arabicFrench, weighed-euckr, weighed-big5, weighed-other}
 use Rattle.kinds.specs.declared.machine.Machine.the-variants.{Utf8, Iso2022Jp, Caseless, Logical, Visual, ArabicFrench}
 use borrow.Author.Needs.{needs}
 use Rattle.kinds.proofs.machine.Machine.run.Statement.{statement}
@@ -86,56 +86,56 @@ unfolding ranOf
 returns c =
     let s = c .before .before .before .before .before .before .before .before .before in
     let e = c .before .before .before .self .given .1 in
-    (rw (c .of-utf8 .ensures, c .before .run .ensures, e), (rw (c .of-utf8 .ensures) (small-utf-8 (perByte * length (s .args .part .now)) (c .before .run .result)), rw e (weighed-other (s .args .weights .now) (Utf8 (c .before .before .before .self .given .0 .0)) tt (c .of-utf8 .result))))
+    (rw (c .of-utf8 .ensures, c .before .run .ensures, e), (rw (c .of-utf8 .ensures) (bounded-utf-8 (perByte * length (s .args .part .now)) (c .before .run .result)), rw e (weighed-other (s .args .weights .now) (Utf8 (c .before .before .before .self .given .0 .0)) tt (c .of-utf8 .result))))
 
 returns-2 : tie.Need-returns-2
 unfolding ranOf
 returns-2 c =
     let s = c .before .before .before .before .before .before .before .before .before in
     let e = c .before .before .before .self2 .given .1 in
-    (rw (c .of-iso2022jp .ensures, c .before .run2 .ensures, e), (rw (c .of-iso2022jp .ensures) (small-iso2022jp (perByte * length (s .args .part .now)) (c .before .run2 .result)), rw e (weighed-other (s .args .weights .now) (Iso2022Jp (c .before .before .before .self2 .given .0 .0)) tt (c .of-iso2022jp .result))))
+    (rw (c .of-iso2022jp .ensures, c .before .run2 .ensures, e), (rw (c .of-iso2022jp .ensures) (bounded-iso2022jp (perByte * length (s .args .part .now)) (c .before .run2 .result)), rw e (weighed-other (s .args .weights .now) (Iso2022Jp (c .before .before .before .self2 .given .0 .0)) tt (c .of-iso2022jp .result))))
 
 returns-3 : tie.Need-returns-3
 unfolding ranOf
 returns-3 c =
     let s = c .before .before .before .before .before .before .before .before .before in
     let e = c .before .before .before .self3 .given .1 in
-    (rw (c .of-euckr .ensures, c .before .run3 .ensures .0, e), (rw (c .of-euckr .ensures) (small-euckr (perByte * length (s .args .part .now)) (c .before .run3 .result) (c .before .run3 .ensures .1 .0)), rw (e, c .of-euckr .ensures) (weighed-euckr (s .args .weights .now) (c .before .before .before .self3 .given .0 .0) (c .before .run3 .result) (c .before .run3 .ensures .1 .1))))
+    (rw (c .of-euckr .ensures, c .before .run3 .ensures .0, e), (rw (c .of-euckr .ensures) (bounded-euckr (perByte * length (s .args .part .now)) (c .before .run3 .result) (c .before .run3 .ensures .1 .0)), rw (e, c .of-euckr .ensures) (weighed-euckr (s .args .weights .now) (c .before .before .before .self3 .given .0 .0) (c .before .run3 .result) (c .before .run3 .ensures .1 .1))))
 
 returns-4 : tie.Need-returns-4
 unfolding ranOf
 returns-4 c =
     let s = c .before .before .before .before .before .before .before .before .before in
     let e = c .before .before .before .self4 .given .1 in
-    (rw (c .of-big5 .ensures, c .before .run4 .ensures .0, e), (rw (c .of-big5 .ensures) (small-big5 (perByte * length (s .args .part .now)) (c .before .run4 .result) (c .before .run4 .ensures .1 .0)), rw (e, c .of-big5 .ensures) (weighed-big5 (s .args .weights .now) (c .before .before .before .self4 .given .0 .0) (c .before .run4 .result) (c .before .run4 .ensures .1 .1))))
+    (rw (c .of-big5 .ensures, c .before .run4 .ensures .0, e), (rw (c .of-big5 .ensures) (bounded-big5 (perByte * length (s .args .part .now)) (c .before .run4 .result) (c .before .run4 .ensures .1 .0)), rw (e, c .of-big5 .ensures) (weighed-big5 (s .args .weights .now) (c .before .before .before .self4 .given .0 .0) (c .before .run4 .result) (c .before .run4 .ensures .1 .1))))
 
 returns-5 : tie.Need-returns-5
 unfolding ranOf
 returns-5 c =
     let s = c .before .before .before .before .before .before .before .before .before in
     let e = c .before .before .before .self5 .given .1 in
-    (rw (c .of-caseless .ensures, c .before .run5 .ensures .0, e), (rw (c .of-caseless .ensures) (small-caseless (perByte * length (s .args .part .now)) (c .before .run5 .result) (c .before .run5 .ensures .1)), rw e (weighed-other (s .args .weights .now) (Caseless (c .before .before .before .self5 .given .0 .0)) tt (c .of-caseless .result))))
+    (rw (c .of-caseless .ensures, c .before .run5 .ensures .0, e), (rw (c .of-caseless .ensures) (bounded-caseless (perByte * length (s .args .part .now)) (c .before .run5 .result) (c .before .run5 .ensures .1)), rw e (weighed-other (s .args .weights .now) (Caseless (c .before .before .before .self5 .given .0 .0)) tt (c .of-caseless .result))))
 
 returns-6 : tie.Need-returns-6
 unfolding ranOf
 returns-6 c =
     let s = c .before .before .before .before .before .before .before .before .before in
     let e = c .before .before .before .self6 .given .1 in
-    (rw (c .of-logical .ensures, c .before .run6 .ensures .0, e), (rw (c .of-logical .ensures) (small-logical (perByte * length (s .args .part .now)) (c .before .run6 .result) (c .before .run6 .ensures .1)), rw e (weighed-other (s .args .weights .now) (Logical (c .before .before .before .self6 .given .0 .0)) tt (c .of-logical .result))))
+    (rw (c .of-logical .ensures, c .before .run6 .ensures .0, e), (rw (c .of-logical .ensures) (bounded-logical (perByte * length (s .args .part .now)) (c .before .run6 .result) (c .before .run6 .ensures .1)), rw e (weighed-other (s .args .weights .now) (Logical (c .before .before .before .self6 .given .0 .0)) tt (c .of-logical .result))))
 
 returns-7 : tie.Need-returns-7
 unfolding ranOf
 returns-7 c =
     let s = c .before .before .before .before .before .before .before .before .before in
     let e = c .before .before .before .self7 .given .1 in
-    (rw (c .of-visual .ensures, c .before .run7 .ensures .0, e), (rw (c .of-visual .ensures) (small-visual (perByte * length (s .args .part .now)) (c .before .run7 .result) (c .before .run7 .ensures .1)), rw e (weighed-other (s .args .weights .now) (Visual (c .before .before .before .self7 .given .0 .0)) tt (c .of-visual .result))))
+    (rw (c .of-visual .ensures, c .before .run7 .ensures .0, e), (rw (c .of-visual .ensures) (bounded-visual (perByte * length (s .args .part .now)) (c .before .run7 .result) (c .before .run7 .ensures .1)), rw e (weighed-other (s .args .weights .now) (Visual (c .before .before .before .self7 .given .0 .0)) tt (c .of-visual .result))))
 
 returns-8 : tie.Need-returns-8
 unfolding ranOf
 returns-8 c =
     let s = c .before .before .before .before .before .before .before .before .before in
     let e = c .before .before .before .self8 .given .1 in
-    (rw (c .of-arabic-french .ensures, c .before .run8 .ensures .0, e), (rw (c .of-arabic-french .ensures) (small-arabicFrench (perByte * length (s .args .part .now)) (c .before .run8 .result) (c .before .run8 .ensures .1)), rw e (weighed-other (s .args .weights .now) (ArabicFrench (c .before .before .before .self8 .given .0 .0)) tt (c .of-arabic-french .result))))
+    (rw (c .of-arabic-french .ensures, c .before .run8 .ensures .0, e), (rw (c .of-arabic-french .ensures) (bounded-arabicFrench (perByte * length (s .args .part .now)) (c .before .run8 .result) (c .before .run8 .ensures .1)), rw e (weighed-other (s .args .weights .now) (ArabicFrench (c .before .before .before .self8 .given .0 .0)) tt (c .of-arabic-french .result))))
 
 pub run-spec : {M : Type 1} → statement M
 run-spec =

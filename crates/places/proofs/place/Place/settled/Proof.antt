@@ -31,8 +31,8 @@ add-t8 c = rw (thru w64 (score c) (search needs), thru w64 (change c) (search ne
 enum-told : tie.Need-enum-told
 enum-told c = search needs
 
-renewed-requires : tie.Need-renewed-requires
-renewed-requires c κs = search needs
+fresh-requires : tie.Need-fresh-requires
+fresh-requires c κs = search needs
 
 enum-told-2 : tie.Need-enum-told-2
 enum-told-2 c = search needs
@@ -43,7 +43,7 @@ returns c = rw (c .before .ran .given .1, thru w64 (score c) (search needs), thr
 
 returns-2 : tie.Need-returns-2
 unfolding settledOf
-returns-2 c = rw (c .renewed .ensures, c .before .enum-told .given .1)
+returns-2 c = rw (c .fresh .ensures, c .before .enum-told .given .1)
 
 returns-3 : tie.Need-returns-3
 unfolding settledOf
@@ -56,7 +56,7 @@ settled-spec =
     enum-known-ran
     add-t8
     enum-told
-    renewed-requires
+    fresh-requires
     enum-told-2
     returns
     returns-2

@@ -1,4 +1,4 @@
--- `Visual::feed` meets its contract: the loop of `Going`, whose measure is what is left of the part.
+-- `Caseless::run_fit` meets its contract: the loop of `Going`, whose measure is what is left of the part.
 use mathlib.Core.Path.{ap}
 use Prim.Native.Nat.{_+_, _*_, _-_}
 use native.Mathlib.Omega.{arith}
@@ -10,11 +10,11 @@ use Rattle.laws.specs.Going.{Going, going-start, going-next, going-fits, going-
 use Rattle.laws.specs.Limit.{room}
 use Rattle.weights.specs.Weights.{perByte}
 use Rattle.single.specs.Lent.{lent}
-use Rattle.visual.specs.Visual.{stepOf, answerOf, ranAs, Sound}
-use Rattle.visual.specs.VisualLaws.{sound-next, sound-more}
+use Rattle.caseless.specs.Caseless.{stepOf, answerOf, ranAs, Sound}
+use Rattle.caseless.specs.CaselessLaws.{sound-next, sound-more}
 use borrow.Author.Needs.{needs}
-use Rattle.visual.proofs.Visual.feed.Statement.{statement}
-use Rattle.visual.proofs.Visual.feed.Tie as tie
+use Rattle.caseless.proofs.Caseless.run_fit.Statement.{statement}
+use Rattle.caseless.proofs.Caseless.run_fit.Tie as tie
 
 abbrev Inv-loop : tie.InvT-loop
 Inv-loop part classes marks pairs weights m₀ score₀ i₀ m score i =
@@ -78,8 +78,8 @@ returns-3 c =
     let going = c .before .loop .inv in
     (ap ranAs (going-done going (omega arith)), going-small going (omega arith))
 
-pub feed-spec : {M : Type 1} → statement M
-feed-spec =
+pub run-fit-spec : {M : Type 1} → statement M
+run-fit-spec =
     tie.close
     (tie.spec
     Inv-loop

@@ -1,4 +1,4 @@
--- `Big5::feed` meets its contract: the loop of `Going`, whose measure is what is left of the part.
+-- `Big5::run_fit` meets its contract: the loop of `Going`, whose measure is what is left of the part.
 use mathlib.Core.Path.{ap, sym, _∙_}
 use Prim.Native.Nat.{_+_, _-_}
 use native.Mathlib.Omega.{arith}
@@ -12,8 +12,8 @@ use Rattle.weights.specs.Weights.{perByte}
 use Rattle.big5.specs.Scoring.{lent, stepOf}
 use Rattle.big5.specs.Big5.{Sound, outOf, ranAs}
 use Rattle.big5.specs.Big5Laws.{sound-any, turn-within}
-use Rattle.big5.proofs.Big5.feed.Statement.{statement}
-use Rattle.big5.proofs.Big5.feed.Tie as tie
+use Rattle.big5.proofs.Big5.run_fit.Statement.{statement}
+use Rattle.big5.proofs.Big5.run_fit.Tie as tie
 
 abbrev Inv-loop : tie.InvT-loop
 Inv-loop part index w m₀ s₀ i₀ m s i = Going (stepOf (lent index w)) Sound perByte limit m₀ part i m (toZ w64 s)
@@ -71,8 +71,8 @@ returns-2 c =
     let going = c .before .loop .inv in
     (ap ranAs (going-done going (omega arith)), going-small going (omega arith))
 
-pub feed-spec : {M : Type 1} → statement M
-feed-spec =
+pub run-fit-spec : {M : Type 1} → statement M
+run-fit-spec =
     tie.close
     (tie.spec
     Inv-loop

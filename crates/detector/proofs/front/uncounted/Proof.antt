@@ -1,7 +1,7 @@
--- `after` meets its contract.
+-- `uncounted` meets its contract.
 use borrow.Author.Needs.{needs}
-use Rattle.detector.proofs.front.after.Statement.{statement}
-use Rattle.detector.proofs.front.after.Tie as tie
+use Rattle.detector.proofs.front.uncounted.Statement.{statement}
+use Rattle.detector.proofs.front.uncounted.Tie as tie
 
 saved-requires : tie.Need-saved-requires
 saved-requires c κs = search needs
@@ -15,5 +15,5 @@ add-t9 c = search needs
 returns : tie.Need-returns
 returns c = rw (c .before .escaped .ensures, c .before .before .saved .ensures)
 
-pub after-spec : {M : Type 1} → statement M
-after-spec = tie.close (tie.spec saved-requires escaped-requires add-t9 returns)
+pub uncounted-spec : {M : Type 1} → statement M
+uncounted-spec = tie.close (tie.spec saved-requires escaped-requires add-t9 returns)

@@ -1,4 +1,4 @@
--- `Utf8::feed` meets its contract: the loop of `Going`, whose measure is what is left of the part.
+-- `Utf8::run_fit` meets its contract: the loop of `Going`, whose measure is what is left of the part.
 use mathlib.Core.Path.{ap, sym, _∙_}
 use Prim.Native.Nat.{_-_}
 use native.Mathlib.Omega.{arith}
@@ -8,8 +8,8 @@ use lib.ListN.{length}
 use Rattle.laws.specs.Going.{Going, going-start, going-still, going-none, going-done}
 use Rattle.utf8.specs.Utf8.{Sound, outOf, ranAs, stepOf}
 use Rattle.utf8.specs.Utf8Laws.{step-live}
-use Rattle.utf8.proofs.Utf8.feed.Statement.{statement}
-use Rattle.utf8.proofs.Utf8.feed.Tie as tie
+use Rattle.utf8.proofs.Utf8.run_fit.Statement.{statement}
+use Rattle.utf8.proofs.Utf8.run_fit.Tie as tie
 
 abbrev Inv-loop : tie.InvT-loop
 Inv-loop part m₀ i₀ m i = Going stepOf (λ n. Sound) 0 0 m₀ part i m (pos 0)
@@ -53,8 +53,8 @@ loop-again c =
 returns-2 : tie.Need-returns-2 Inv-loop μ-loop
 returns-2 c = ap ranAs (going-done (c .before .loop .inv) (omega arith))
 
-pub feed-spec : {M : Type 1} → statement M
-feed-spec =
+pub run-fit-spec : {M : Type 1} → statement M
+run-fit-spec =
     tie.close
     (tie.spec
     Inv-loop

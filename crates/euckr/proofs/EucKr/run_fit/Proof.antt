@@ -1,4 +1,4 @@
--- `EucKr::feed` meets its contract: the loop of `Going`, whose measure is what is left of the part.
+-- `EucKr::run_fit` meets its contract: the loop of `Going`, whose measure is what is left of the part.
 use mathlib.Core.Path.{ap, sym, _∙_}
 use Prim.Native.Nat.{_+_, _*_, _-_}
 use native.Mathlib.Omega.{arith}
@@ -12,8 +12,8 @@ use Rattle.weights.specs.Weights.{perByte}
 use Rattle.euckr.specs.Scoring.{lent, stepOf}
 use Rattle.euckr.specs.EucKr.{Sound, outOf, ranAs}
 use Rattle.euckr.specs.EucKrLaws.{sound-more, turn-sound}
-use Rattle.euckr.proofs.EucKr.feed.Statement.{statement}
-use Rattle.euckr.proofs.EucKr.feed.Tie as tie
+use Rattle.euckr.proofs.EucKr.run_fit.Statement.{statement}
+use Rattle.euckr.proofs.EucKr.run_fit.Tie as tie
 
 abbrev Inv-loop : tie.InvT-loop
 Inv-loop part index extras w m₀ s₀ i₀ m s i = Going (stepOf (lent index extras w)) Sound perByte room m₀ part i m (toZ w64 s)
@@ -73,8 +73,8 @@ returns-2 c =
     let going = c .before .loop .inv in
     (ap ranAs (going-done going (omega arith)), going-small going (omega arith))
 
-pub feed-spec : {M : Type 1} → statement M
-feed-spec =
+pub run-fit-spec : {M : Type 1} → statement M
+run-fit-spec =
     tie.close
     (tie.spec
     Inv-loop

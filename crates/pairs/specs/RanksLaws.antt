@@ -14,7 +14,7 @@ use Rattle.laws.specs.Table.{every, nothing, within}
 use Rattle.laws.specs.Tests.{both, either}
 use Rattle.pairs.specs.Pairs.{isLead}
 use Rattle.pairs.specs.PairsLaws.{lead-bounds}
-use Rattle.pairs.specs.Places.{numbers, those, bytes, each, pairsOf, before, placeOf}
+use Rattle.pairs.specs.Ranks.{numbers, those, bytes, each, pairsOf, before, rankOf}
 use Rattle.pairs.specs.Standard.{Layout, pointer}
 
 -- ---- how many pairs of a product stand before one
@@ -133,13 +133,13 @@ module _ (isTrail : ℕ → Bool) (byte : (b : ℕ) → isTrail b ≡ true → b
     in-pairs = in-each lead b (bytes isLead) (bytes isTrail) (in-bytes isLead lead l (omega (arith, lead-bounds lead l))) (in-bytes isTrail b t (byte b t))
 
     -- a pair's place is below the number of pairs
-    pub place-below : placeOf isTrail lead b < length (pairsOf isTrail)
-    place-below =
+    pub rank-below : rankOf isTrail lead b < length (pairsOf isTrail)
+    rank-below =
         rw (← count-all (pairsOf isTrail)) (count-fewer (before lead b) (λ p. true) (λ p e. refl) (lead, b) (pairsOf isTrail) in-pairs (not-before-itself lead b) refl)
 
     -- and below the place of each that it stands before
-    place-less : (lead′ b′ : ℕ) → Before lead b lead′ b′ → placeOf isTrail lead b < placeOf isTrail lead′ b′
-    place-less lead′ b′ h =
+    rank-less : (lead′ b′ : ℕ) → Before lead b lead′ b′ → rankOf isTrail lead b < rankOf isTrail lead′ b′
+    rank-less lead′ b′ h =
         count-fewer (before lead b) (before lead′ b′) more (lead, b) (pairsOf isTrail) in-pairs (not-before-itself lead b) (true-before lead′ b′ lead b h)
       where
         more : (p : ℕ × ℕ) → before lead b p ≡ true → before lead′ b′ p ≡ true
@@ -148,10 +148,10 @@ module _ (isTrail : ℕ → Bool) (byte : (b : ℕ) → isTrail b ≡ true → b
             (⊎-elim (λ x. ⊎-elim (λ y. inl (omega arith)) (λ y. inl (omega arith)) h) (λ x. ⊎-elim (λ y. inl (omega arith)) (λ y. inr (omega arith, omega arith)) h) (before-true lead b (p .0) (p .1) e))
 
   -- no two pairs share a place
-  pub place-once : (lead b lead′ b′ : ℕ) → isLead lead ≡ true → isTrail b ≡ true → isLead lead′ ≡ true → isTrail b′ ≡ true → placeOf isTrail lead b ≡ placeOf isTrail lead′ b′ → (lead ≡ lead′) × (b ≡ b′)
-  place-once lead b lead′ b′ l t l′ t′ e =
-      let p : Before lead b lead′ b′ → ⊥ = λ h. omega (arith, place-less lead b l t lead′ b′ h) in
-      let q : Before lead′ b′ lead b → ⊥ = λ h. omega (arith, place-less lead′ b′ l′ t′ lead b h) in
+  pub rank-once : (lead b lead′ b′ : ℕ) → isLead lead ≡ true → isTrail b ≡ true → isLead lead′ ≡ true → isTrail b′ ≡ true → rankOf isTrail lead b ≡ rankOf isTrail lead′ b′ → (lead ≡ lead′) × (b ≡ b′)
+  rank-once lead b lead′ b′ l t l′ t′ e =
+      let p : Before lead b lead′ b′ → ⊥ = λ h. omega (arith, rank-less lead b l t lead′ b′ h) in
+      let q : Before lead′ b′ lead b → ⊥ = λ h. omega (arith, rank-less lead′ b′ l′ t′ lead b h) in
       let p₀ : lead < lead′ → ⊥ = λ h. p (inl h) in
       let q₀ : lead′ < lead → ⊥ = λ h. q (inl h) in
       let s : lead ≡ lead′ = omega arith in
@@ -197,13 +197,13 @@ module _ (e : Layout) (counted : Counted e) where
   pairs-number = each-length (bytes isLead) (bytes (e .is-trail)) ∙ rw (leads-length, counted .row-length)
 
   module _ (lead b : ℕ) (l : isLead lead ≡ true) (t : e .is-trail b ≡ true) where
-    pub pointer-place : pointer e lead b ≡ placeOf (e .is-trail) lead b
-    pointer-place =
+    pub pointer-rank : pointer e lead b ≡ rankOf (e .is-trail) lead b
+    pointer-rank =
         sym (split lead b (bytes isLead) (bytes (e .is-trail)) ∙ rw (leads-before lead l, lead-once lead l, counted .row-length, counted .trails-before b t) (omega arith))
 
     pub pointer-below : pointer e lead b < 126 * e .row
-    pointer-below = rw (pointer-place, ← pairs-number) (place-below (e .is-trail) (counted .byte) lead b l t)
+    pointer-below = rw (pointer-rank, ← pairs-number) (rank-below (e .is-trail) (counted .byte) lead b l t)
 
   pub pointer-once : (lead b lead′ b′ : ℕ) → isLead lead ≡ true → e .is-trail b ≡ true → isLead lead′ ≡ true → e .is-trail b′ ≡ true → pointer e lead b ≡ pointer e lead′ b′ → (lead ≡ lead′) × (b ≡ b′)
   pointer-once lead b lead′ b′ l t l′ t′ p =
-      place-once (e .is-trail) (counted .byte) lead b lead′ b′ l t l′ t′ (sym (pointer-place lead b l t) ∙ (p ∙ pointer-place lead′ b′ l′ t′))
+      rank-once (e .is-trail) (counted .byte) lead b lead′ b′ l t l′ t′ (sym (pointer-rank lead b l t) ∙ (p ∙ pointer-rank lead′ b′ l′ t′))

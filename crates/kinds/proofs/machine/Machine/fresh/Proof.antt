@@ -1,8 +1,8 @@
--- `Machine::renewed` meets its contract.
-use Rattle.kinds.specs.Kinds.{freshIn}
+-- `Machine::fresh` meets its contract.
+use Rattle.kinds.specs.Kinds.{freshOf}
 use borrow.Author.Needs.{needs}
-use Rattle.kinds.proofs.machine.Machine.renewed.Statement.{statement}
-use Rattle.kinds.proofs.machine.Machine.renewed.Tie as tie
+use Rattle.kinds.proofs.machine.Machine.fresh.Statement.{statement}
+use Rattle.kinds.proofs.machine.Machine.fresh.Tie as tie
 
 enum-told : tie.Need-enum-told
 enum-told c = search needs
@@ -53,39 +53,39 @@ fresh-requires-8 : tie.Need-fresh-requires-8
 fresh-requires-8 c κs = search needs
 
 returns : tie.Need-returns
-unfolding freshIn
+unfolding freshOf
 returns c = rw (c .fresh .ensures, c .before .enum-told .given .1)
 
 returns-2 : tie.Need-returns-2
-unfolding freshIn
+unfolding freshOf
 returns-2 c = rw (c .fresh2 .ensures, c .before .enum-told2 .given .1)
 
 returns-3 : tie.Need-returns-3
-unfolding freshIn
+unfolding freshOf
 returns-3 c = rw (c .fresh3 .ensures, c .before .enum-told3 .given .1)
 
 returns-4 : tie.Need-returns-4
-unfolding freshIn
+unfolding freshOf
 returns-4 c = rw (c .fresh4 .ensures, c .before .enum-told4 .given .1)
 
 returns-5 : tie.Need-returns-5
-unfolding freshIn
+unfolding freshOf
 returns-5 c = rw (c .fresh5 .ensures, c .before .enum-told5 .given .1)
 
 returns-6 : tie.Need-returns-6
-unfolding freshIn
+unfolding freshOf
 returns-6 c = rw (c .fresh6 .ensures, c .before .enum-told6 .given .1)
 
 returns-7 : tie.Need-returns-7
-unfolding freshIn
+unfolding freshOf
 returns-7 c = rw (c .fresh7 .ensures, c .before .enum-told7 .given .1)
 
 returns-8 : tie.Need-returns-8
-unfolding freshIn
+unfolding freshOf
 returns-8 c = rw (c .fresh8 .ensures, c .before .enum-told8 .given .1)
 
-pub renewed-spec : {M : Type 1} → statement M
-renewed-spec =
+pub fresh-spec : {M : Type 1} → statement M
+fresh-spec =
     tie.close
     (tie.spec
     enum-told

@@ -1,10 +1,10 @@
--- `after` meets its contract.
+-- `after_byte` meets its contract.
 use mir.Syntax.{w64}
 use borrow.Author.Needs.{needs}
 use Rattle.laws.specs.Sizes.{thru}
 use borrow.Author.Needs.{needs}
-use Rattle.euckr.proofs.after.Statement.{statement}
-use Rattle.euckr.proofs.after.Tie as tie
+use Rattle.euckr.proofs.after_byte.Statement.{statement}
+use Rattle.euckr.proofs.after_byte.Tie as tie
 
 is-euc-requires : tie.Need-is-euc-requires
 is-euc-requires c κs = search needs
@@ -12,5 +12,5 @@ is-euc-requires c κs = search needs
 returns : tie.Need-returns
 returns c = rw (c .before .is-euc .ensures, thru w64 (c .before .before .args .s .gain) (search needs))
 
-pub after-spec : {M : Type 1} → statement M
-after-spec = tie.close (tie.spec is-euc-requires returns)
+pub after-byte-spec : {M : Type 1} → statement M
+after-byte-spec = tie.close (tie.spec is-euc-requires returns)

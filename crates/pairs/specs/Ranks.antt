@@ -32,5 +32,5 @@ pairsOf isTrail = each (bytes isLead) (bytes isTrail)
 unfoldable pub before : ℕ → ℕ → ℕ × ℕ → Bool
 before lead b p = ltb (p .0) lead || (eqb (p .0) lead && ltb (p .1) b)
 
-abbrev pub placeOf : (ℕ → Bool) → ℕ → ℕ → ℕ
-placeOf isTrail lead b = count (before lead b) (pairsOf isTrail)
+abbrev pub rankOf : (ℕ → Bool) → ℕ → ℕ → ℕ
+rankOf isTrail lead b = count (before lead b) (pairsOf isTrail)

@@ -1,8 +1,8 @@
--- `LatinCaseState::after` meets its contract.
+-- `LatinCaseState::after_class` meets its contract.
 use borrow.Author.Tests.{eq-eqb, ne-eqb, le-leb, lt-leb}
 use borrow.Author.Needs.{needs}
-use Rattle.arabic_french.proofs.LatinCaseState.after.Statement.{statement}
-use Rattle.arabic_french.proofs.LatinCaseState.after.Tie as tie
+use Rattle.arabic_french.proofs.LatinCaseState.after_class.Statement.{statement}
+use Rattle.arabic_french.proofs.LatinCaseState.after_class.Tie as tie
 
 returns : tie.Need-returns
 returns c = rw (ne-eqb _ _ (c .if1 .taken))
@@ -34,8 +34,8 @@ returns-5 c = rw (eq-eqb _ _ (c .before .before .before .if1 .left), le-leb _ _ 
 returns-6 : tie.Need-returns-6
 returns-6 c = rw (eq-eqb _ _ (c .before .before .before .if1 .left), le-leb _ _ (c .before .before .if2 .left), c .enum-told4 .given .1)
 
-pub after-spec : {M : Type 1} → statement M
-after-spec =
+pub after-class-spec : {M : Type 1} → statement M
+after-class-spec =
     tie.close
     (tie.spec
     returns

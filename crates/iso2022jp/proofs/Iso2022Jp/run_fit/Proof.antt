@@ -1,4 +1,4 @@
--- `Iso2022Jp::feed` meets its contract: the loop of `Going`, whose measure is what is left of the part.
+-- `Iso2022Jp::run_fit` meets its contract: the loop of `Going`, whose measure is what is left of the part.
 use mathlib.Core.Path.{refl, ap, sym, _∙_}
 use Prim.Native.Nat.{_-_}
 use native.Mathlib.Omega.{arith}
@@ -8,8 +8,8 @@ use lib.ListN.{length}
 use Rattle.laws.specs.Going.{Going, going-start, going-still, going-none, going-done}
 use Rattle.iso2022jp.specs.Iso2022Jp.{Sound, Passes, outOf, ranAs, stepOf}
 use Rattle.iso2022jp.specs.Iso2022JpLaws.{step-live}
-use Rattle.iso2022jp.proofs.Iso2022Jp.feed.Statement.{statement}
-use Rattle.iso2022jp.proofs.Iso2022Jp.feed.Tie as tie
+use Rattle.iso2022jp.proofs.Iso2022Jp.run_fit.Statement.{statement}
+use Rattle.iso2022jp.proofs.Iso2022Jp.run_fit.Tie as tie
 
 abbrev Inv-loop : tie.InvT-loop
 Inv-loop part index m₀ i₀ m i = Going (stepOf index) (λ n. Sound) 0 0 m₀ part i m (pos 0)
@@ -70,8 +70,8 @@ loop-again-2 c =
 returns-2 : tie.Need-returns-2 Inv-loop μ-loop
 returns-2 c = ap ranAs (going-done (c .before .loop .inv) (omega arith))
 
-pub feed-spec : {M : Type 1} → statement M
-feed-spec =
+pub run-fit-spec : {M : Type 1} → statement M
+run-fit-spec =
     tie.close
     (tie.spec
     Inv-loop
