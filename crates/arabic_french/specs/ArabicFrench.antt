@@ -24,7 +24,7 @@ use Rattle.arabic_french.specs.declared.Ran.the-variants.{Live, Dropped,
 abbrev pub fresh : ArabicFrench
 fresh = record { prev = 0; «case_state» = Space; «prev_ascii» = true; «current_word_len» = 0; «longest_word» = 0 }
 
--- the case of the Latin letters so far
+-- the case of the French letters so far; any other class, Arabic too, counts as a space between words
 abbrev pub capitalAfter : LatinCaseState → LatinCaseState
 capitalAfter Space = Upper
 capitalAfter Upper = AllCaps
@@ -65,7 +65,7 @@ module _ (t : Lent) where
 abbrev pub closeOf : Lent → ArabicFrench → Outcome ArabicFrench
 closeOf t m = closeBy stepOf t m
 
--- what n bytes can have led to
+-- a record that no bound of n bytes excludes
 abbrev pub Sound : ℕ → ArabicFrench → Type 0
 Sound n m = Common n (m .prev) (m .«current_word_len») (m .«longest_word»)
 

@@ -1,4 +1,4 @@
-// A single-byte encoding of Arabic and French, as windows-1256 is: the case of Latin letters counts.
+// A single-byte encoding of Arabic and French, as windows-1256 is: the French letters have case, the Arabic ones make words.
 ghost use mathlib.Core.Path.{_≡_};
 ghost use Prim.Native.Nat.{_*_, _≤_};
 ghost use lib.IntN.{natAbs};
@@ -35,6 +35,7 @@ pub enum Ran {
 }
 
 impl LatinCaseState {
+    // The case after a letter of French; any other class counts as a space between words.
     fn after_class(self, class: u8) -> LatinCaseState
         ensures { λ r. ⌜ r ≡ caseOf self class ⌝ }
     {
@@ -160,7 +161,7 @@ impl ArabicFrench {
         Ran::Live(m, score)
     }
 
-    // Whether n bytes can have led to the record.
+    // Whether no bound of n bytes excludes the record.
     pub fn is_sound_for(self, n: u64) -> bool
         ensures { λ r. ⌜ r ≡ soundB n self ⌝ }
     {

@@ -20,7 +20,7 @@ use Rattle.big5.specs.declared.Stepped.the-variants.{Live as SteppedLive
 use Rattle.big5.specs.declared.Ran.{Ran}
 use Rattle.big5.specs.declared.Ran.the-variants.{Live, Dropped, Unfit}
 
--- a record that n bytes can have led to; Big5 counts nothing
+-- a record that no bound of n bytes excludes; Big5 counts nothing
 pub record Sound (n : ℕ) (m : Big5) : Type 0 where
   pub lead-fits : isLeadOrNone (m .lead) ≡ true
   pub held-small : natAbs (releasedOf (m .held)) ≤ term

@@ -26,11 +26,12 @@ scaleOf weights =
     record { adjacency = weightOf weights cjkLatinAdjacency; punctuation = weightOf weights cjPunctuation; other = weightOf weights cjkOther; level1 = weightOf weights big5Level1; hanzi = weightOf weights big5Other; pua = weightOf weights big5Pua; extension = weightOf weights big5Extension }
 
 -- ---- units
--- Hanzi, with the compatibility ones
+-- Hanzi: from extension A to the end of the unified ones, and the compatibility ones
 abbrev pub isHanzi : ℕ → Bool
 isHanzi u = between 0x3400 0x9FFF u || between 0xF900 0xFAFF u
 
--- punctuation that is distinct from Korean, then from Japanese
+-- full-width punctuation: what Korean text has otherwise (space, enumeration comma, full stop, parentheses), then what Japanese
+-- text has otherwise (exclamation mark, comma, semicolon, question mark)
 abbrev pub distinct : List ℕ
 distinct = 0x3000 ∷ 0x3001 ∷ 0x3002 ∷ 0xFF08 ∷ 0xFF09 ∷ 0xFF01 ∷ 0xFF0C ∷ 0xFF1B ∷ 0xFF1F ∷ []
 
@@ -63,7 +64,7 @@ scored prev held gain = record { prev = prev; held = held; gain = gain }
 unfoldable pub holdsOf : Big5 → Bool
 holdsOf m = not (isCj (m .prev)) && isHeldLead (m .«prev_byte»)
 
--- level 1 is told by the byte before
+-- the byte before is the Hanzi's lead; level 1, the Hanzi in frequent use, has the leads A4 to C6
 unfoldable pub hanziWeight : Scale → ℕ → ℤ
 hanziWeight w byte = cond (between 0xA4 0xC6 byte) (w .level1) (w .hanzi)
 
@@ -92,11 +93,12 @@ module _ (w : Scale) (m : Big5) where
       (cond (isDistinct u) (otherOf m (w .punctuation))
       (cond (ascii u) (scored Other Nothing (pos 0)) (otherOf m (w .other)))))
 
-  -- a code point: one unit, or a pair of units, which is a Hanzi
+  -- a code point: one unit of UTF-16; or two, which is a Hanzi: of plane two the Standard's index has only Hong Kong's
   unfoldable pub pointOf : ℕ → Scored
   pointOf point = cond (ltb point 0x10000) (unitOf point) (hanziOf w m (w .hanzi))
 
-  -- a pair in Big5's range that is not mapped: private use, with what a Hanzi does
+  -- a pair in Big5's range that is not mapped: private use, where other extensions (Big5-UAO is one) have characters, so that text
+  -- with such is not dropped. It does what a Hanzi does
   unfoldable pub unmappedOf : Scored
   unmappedOf = scored Cj Nothing (releasedOf (m .held) +ℤ w .pua +ℤ besideOf w (m .prev))
 
@@ -107,19 +109,22 @@ extensionOf w b =
     (cond (letter b) (scored AsciiLetter Nothing (w .extension)) (scored Other Nothing (w .extension)))
 
 -- ---- errors, by the byte before and this one
+-- a pair in Big5's range, mapped or not
 abbrev pub isPair : ℕ → ℕ → Bool
 isPair before b = isLead before && isTrail b
 
+-- single bytes of Mac OS Chinese Traditional that are leads of Big5 too; FF is another, and no lead
 abbrev pub extensions : List ℕ
 extensions = 0xA0 ∷ 0xFD ∷ 0xFE ∷ []
 
 abbrev pub isExtension : ℕ → Bool
 isExtension before = isIn extensions before
 
+-- an error with such a byte before: it stood alone if ASCII follows, or FF
 abbrev pub extends : ℕ → ℕ → Bool
 extends before b = isExtension before && (ascii b || eqb b 0xFF)
 
--- the record after byte b
+-- alive, with the record after byte b
 abbrev pub afterByte : ℕ → ℕ → Scored → Outcome Big5
 afterByte lead b s = live (record { lead = lead; prev = s .prev; «prev_byte» = b; held = s .held }) (s .gain)
 
@@ -133,7 +138,7 @@ module _ (w : Scale) (m : Big5) where
   unfoldable pub errorOf : ℕ → ℕ → ℕ → Outcome Big5
   errorOf lead b length = cond (isPair (m .«prev_byte») b) (afterByte lead b (unmappedOf w m)) (strayOf lead b length)
 
-  -- an event at byte b, with the decoder's lead after it
+  -- an event at byte b, with the decoder's lead after it. What is two code points is a letter with an accent, and no Hanzi
   abbrev pub onEvent : ℕ → ℕ → Event → Outcome Big5
   onEvent lead b Pending = afterByte lead b (scored (m .prev) (m .held) (pos 0))
   onEvent lead b (Point point) = afterByte lead b (pointOf w m point)

@@ -60,6 +60,7 @@ struct Scored {
 }
 
 // ---- what the tests of a unit say
+// From extension A to the end of the unified ones, and the compatibility ones.
 fn is_hanzi(u: u32) -> bool
     ensures { λ r. ⌜ r ≡ isHanzi u ⌝ }
 {
@@ -75,7 +76,7 @@ fn is_hanzi(u: u32) -> bool
     u < 0xFB00
 }
 
-// Punctuation that is distinct from Korean or Japanese.
+// Full-width punctuation that Korean or Japanese text has otherwise.
 fn is_distinct(u: u32) -> bool
     ensures { λ r. ⌜ r ≡ isDistinct u ⌝ }
 {
@@ -112,6 +113,7 @@ impl Scale {
         }
     }
 
+    // Level 1, the Hanzi in frequent use, has the leads A4 to C6.
     fn of_hanzi(self, prev_byte: u8) -> i64
         ensures { λ r. ⌜ r ≡ hanziWeight self «prev_byte» ⌝ }
     {
@@ -232,7 +234,7 @@ impl Big5 {
         self.other(w.other)
     }
 
-    // A code point that is a pair of units is a Hanzi.
+    // A code point that is a pair of units is a Hanzi of Hong Kong's extension.
     fn point(self, point: u32, w: Scale) -> Scored
         requires { ⌜ SmallScale w ⌝ }
         requires { ⌜ SmallHeld (self .held) ⌝ }
@@ -244,7 +246,7 @@ impl Big5 {
         self.hanzi(w.hanzi, w)
     }
 
-    // A pair in Big5's range that is not mapped counts as a Hanzi of private use.
+    // A pair in Big5's range that is not mapped counts as a Hanzi of private use: other extensions have theirs there.
     fn unmapped(self, w: Scale) -> Scored
         requires { ⌜ SmallScale w ⌝ }
         requires { ⌜ SmallHeld (self .held) ⌝ }
@@ -270,7 +272,8 @@ fn is_pair(prev_byte: u8, b: u8) -> bool
     false
 }
 
-// Whether the byte before is a single-byte extension where it stands before ASCII or FF.
+// Whether the byte before is a single byte of Mac OS Chinese Traditional where it stands before ASCII or FF. It is a lead too;
+// FF is another such byte, and no lead.
 fn is_extension(prev_byte: u8) -> bool
     ensures { λ r. ⌜ r ≡ isExtension «prev_byte» ⌝ }
 {
@@ -423,7 +426,7 @@ impl Big5 {
         Ran::Live(m, s)
     }
 
-    // Whether the record is one that `bytes` bytes can have led to.
+    // Whether no bound of `bytes` bytes excludes the record.
     pub fn is_sound_for(self, bytes: u64) -> bool
         ensures { λ r. ⌜ r ≡ soundB bytes self ⌝ }
     {

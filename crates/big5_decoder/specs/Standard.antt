@@ -27,12 +27,13 @@ layout = record { is-trail = isTrail; offset = offsetOf; row = 157 }
 abbrev pub pointerOf : ℕ → ℕ → ℕ
 pointerOf lead b = pointer layout lead b
 
--- the index has plane two
+-- the index has code points of plane two: Hanzi of Hong Kong's extension
 abbrev pub isMapped : ℕ → Bool
 isMapped entry = entries.isMapped true entry
 
 module _ (index : List ℕ) where
-  -- four pointers stand for two code points before the index is asked
+  -- four pointers stand for two code points before the index is asked: 00CA and 00EA, each with a macron and with a caron, which
+  -- have no code points of their own
   unfoldable pub pointsOf : ℕ → CodePoints
   pointsOf at =
       cond (eqb at 1133) (two 0xCA 0x304)

@@ -1,4 +1,4 @@
--- A pointer is the pair's place in the index, and which byte sequences Big5 takes for what, both ways.
+-- A pointer is the pair's rank, and which byte sequences Big5 takes for what, both ways.
 use mathlib.Core.Path.{_≡_, refl}
 use mathlib.Core.Bool.{Bool, true, false, _||_}
 use mathlib.Core.List.{List}
@@ -24,7 +24,7 @@ use Rattle.big5_decoder.specs.Standard.{isTrail, layout, pointerOf, isMa
 use Rattle.big5_decoder.specs.SpecialsLaws.{specials, other-points}
 use Rattle.big5_decoder.specs.Ways.{trail-cases}
 
--- ---- pointers: the place by lead and then by trail, in the index, and no two the same
+-- ---- pointers: the rank by lead and then by trail, in the index, and no two the same
 pub counted : Counted layout
 unfolding count those numbers counts
 counted = counted-by layout (λ b t. ⊎-elim (λ h. omega arith) (λ h. omega arith) (trail-cases b t)) refl tt

@@ -35,7 +35,7 @@ module _ (t : Lent) where
 abbrev pub closeOf : Lent → Caseless → Outcome Caseless
 closeOf t m = closeBy stepOf t m
 
--- what n bytes can have led to
+-- a record that no bound of n bytes excludes
 abbrev pub Sound : ℕ → Caseless → Type 0
 Sound n m = Common n (m .prev) (m .«current_word_len») (m .«longest_word»)
 

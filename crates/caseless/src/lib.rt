@@ -1,4 +1,4 @@
-// A single-byte encoding without case.
+// A single-byte encoding of a script without case, as ISO-8859-6 (Arabic) and windows-874 (Thai) are.
 ghost use mathlib.Core.Path.{_≡_};
 ghost use Prim.Native.Nat.{_*_};
 ghost use lib.ListN.{length};
@@ -99,7 +99,7 @@ impl Caseless {
         Ran::Live(m, score)
     }
 
-    // Whether n bytes can have led to the record.
+    // Whether no bound of n bytes excludes the record.
     pub fn is_sound_for(self, n: u64) -> bool
         ensures { λ r. ⌜ r ≡ soundB n self ⌝ }
     {

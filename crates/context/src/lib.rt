@@ -13,7 +13,7 @@ pub struct Context {
     pub len: usize,
 }
 
-// A context's two places, whether they hold a byte or not.
+// A context's two slots, whether they hold a byte or not.
 pub type Slots = [u8; 2];
 
 impl Context {
@@ -71,7 +71,7 @@ impl Context {
         }
     }
 
-    // Its two places. The bytes that it holds are the first `count` of them.
+    // Its two slots. The bytes that it holds are the first `count` of them.
     pub fn bytes(self) -> Slots
         ensures { λ r. ⌜ r ≡ self .first ∷ self .second ∷ [] ⌝ }
     {

@@ -129,7 +129,7 @@ module _ (f : Front) (xs : List ℕ) (g : Trigger) (e : g ≡ triggerOf f xs) (d
   unfolding triggerOf
   after-new k q = let h : (k ≡ length (bytesOf (f .context))) × Here g = rw q at w in here-new (triggered f) e (h .1)
 
--- ---- plain bytes: neither 0x1B nor non-ASCII
+-- ---- triggerless bytes: neither 0x1B nor non-ASCII
 pub triggerless-count : (xs : List ℕ) → any isTrigger xs ≡ false → nonAsciiCount xs ≡ 0
 unfolding any count
 triggerless-count [] e = refl

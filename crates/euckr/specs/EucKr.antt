@@ -20,7 +20,7 @@ use Rattle.euckr.specs.declared.Stepped.the-variants.{Live as SteppedLiv
 use Rattle.euckr.specs.declared.Ran.{Ran}
 use Rattle.euckr.specs.declared.Ran.the-variants.{Live, Dropped, Unfit}
 
--- a record that n bytes can have led to
+-- a record that no bound of n bytes excludes
 pub record Sound (n : ℕ) (m : EucKr) : Type 0 where
   pub lead-fits : isLeadOrNone (m .lead) ≡ true
   pub word-most : m .«current_word_len» ≤ n

@@ -26,12 +26,16 @@ scaleOf weights =
     record { adjacency = weightOf weights cjkLatinAdjacency; other = weightOf weights cjkOther; hangul = weightOf weights eucHangul; outer = weightOf weights nonEucHangul; hanja = weightOf weights hanja; mixed = weightOf weights hanjaAfterHangul; pua = weightOf weights eucKrPua; mac = weightOf weights macKorean; extension = weightOf weights eucKrExtension; long = weightOf weights longWord }
 
 -- ---- bytes and units
+-- EUC's range: the pairs of KS X 1001 have both bytes in it, those that code page 949 adds have not
 abbrev pub isEuc : ℕ → Bool
 isEuc b = between 0xA1 0xFE b
 
+-- the Hangul syllables
 abbrev pub isHangul : ℕ → Bool
 isHangul u = between 0xAC00 0xD7A3 u
 
+-- Hanja: the unified ideographs and on to the Hangul, where the index has nothing more; and F900 to FA0B, those that KS X 1001 has
+-- again under another reading
 abbrev pub isHanja : ℕ → Bool
 isHanja u = between 0x4E00 0xABFF u || between 0xF900 0xFA0B u
 
@@ -67,7 +71,7 @@ letterAfter w Hangul = w .adjacency
 letterAfter w Hanja = w .adjacency
 letterAfter w Other = pos 0
 
--- what a word adds that has become n long
+-- what a word of Hangul and Hanja adds that has become n long: it is long from the sixth on
 unfoldable pub longOf : Scale → ℕ → ℤ
 longOf w n = cond (ltb 5 n) (w .long) (pos 0)
 
@@ -88,11 +92,11 @@ module _ (w : Scale) (m : EucKr) where
   unfoldable pub aroundOf : ℤ
   aroundOf = releasedOf (m .held) +ℤ hangulAfter w (m .prev) +ℤ longOf w (m .«current_word_len» + 1)
 
-  -- a Hangul of two bytes in the EUC range, with its extra
+  -- a Hangul of two bytes in the EUC range is one of KS X 1001, and has an extra of its own
   unfoldable pub innerOf : ℤ → Scored
   innerOf extra = scored Hangul (m .«current_word_len» + 1) Nothing (aroundOf +ℤ w .hangul +ℤ extra)
 
-  -- any other Hangul: its score is added, or held
+  -- any other is one that code page 949 adds: its score is added, or held
   unfoldable pub outerOf : Scored
   outerOf =
       cond (holdsOf m)
@@ -119,24 +123,26 @@ unitOf w extras m u b =
     (cond (ascii u) (scored Other 0 Nothing (pos 0)) (otherOf m (w .other)))))
 
 -- ---- errors, by the byte before and this one
--- a pair that code page 949 leaves to its users
+-- a pair that code page 949 leaves to its users: the rows C9 and FE of EUC's range
 abbrev pub isUserPair : ℕ → ℕ → Bool
 isUserPair before b = (eqb before 0xC9 || eqb before 0xFE) && isEuc b
 
+-- leads with which MacKorean has symbols besides those of KS X 1001
 abbrev pub isMacLead : ℕ → Bool
 isMacLead before = eqb before 0xA1 || (between 0xA3 0xA8 before || between 0xAA 0xAD before)
 
--- a symbol of MacKorean outside code page 949
+-- such a symbol: its second byte is no trail byte of code page 949
 abbrev pub isMacSymbol : ℕ → ℕ → Bool
 isMacSymbol before b = between 0x7B 0x7D b && isMacLead before
 
--- single-byte extensions of MacKorean: those that are leads too, and those that are not
+-- single bytes that MacKorean adds: those that are leads of code page 949 too, 81 to 84, and those that are none, 80 and FF
 abbrev pub isExtension : ℕ → Bool
 isExtension before = between 0x81 0x84 before
 
 abbrev pub isLone : ℕ → Bool
 isLone b = eqb b 0x80 || eqb b 0xFF
 
+-- an error with one of the former before: it stood alone if ASCII follows, or one of the latter
 abbrev pub extends : ℕ → ℕ → Bool
 extends before b = isExtension before && (ascii b || isLone b)
 
@@ -146,7 +152,7 @@ extensionOf w b =
     cond (isLone b) (scored Other 0 Nothing (w .extension +ℤ w .extension))
     (cond (letter b) (scored AsciiLetter 0 Nothing (w .extension)) (scored Other 0 Nothing (w .extension)))
 
--- the record after byte b
+-- alive, with the record after byte b
 abbrev pub afterByte : ℕ → ℕ → Scored → Outcome EucKr
 afterByte lead b s = live (record { lead = lead; «prev_byte» = b; «prev_was_euc_range» = isEuc b; prev = s .prev; «current_word_len» = s .word; held = s .held }) (s .gain)
 

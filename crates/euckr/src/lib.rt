@@ -70,6 +70,7 @@ struct Scored {
 }
 
 // ---- what the tests of a byte or a unit say
+// EUC's range: the pairs of KS X 1001 have both bytes in it, those that code page 949 adds have not.
 fn is_euc(b: u8) -> bool
     ensures { λ r. ⌜ r ≡ isEuc b ⌝ }
 {
@@ -88,6 +89,7 @@ fn is_hangul(u: u32) -> bool
     u < 0xD7A4
 }
 
+// The unified ideographs and on to the Hangul, and the compatibility ones of KS X 1001.
 fn is_hanja(u: u32) -> bool
     ensures { λ r. ⌜ r ≡ isHanja u ⌝ }
 {
@@ -168,7 +170,7 @@ impl Scale {
         }
     }
 
-    // What a word adds that has become this long.
+    // What a word of Hangul and Hanja adds that has become this long: it is long from the sixth on.
     fn of_word(self, word: u64) -> i64
         ensures { λ r. ⌜ r ≡ longOf self word ⌝ }
     {
@@ -238,7 +240,7 @@ impl EucKr {
         held.released() + w.hangul_after(prev) + w.of_word(self.current_word_len + 1)
     }
 
-    // A Hangul of two bytes in the EUC range, with its extra.
+    // A Hangul of two bytes in the EUC range is one of KS X 1001 and has an extra of its own.
     fn inner_hangul(self, extra: i64, w: Scale) -> Scored
         requires { ⌜ SmallScale w ⌝ }
         requires { ⌜ SmallHeld (self .held) ⌝ }
@@ -254,7 +256,7 @@ impl EucKr {
         }
     }
 
-    // Any other Hangul: its score may be held.
+    // Any other is one that code page 949 adds: its score may be held.
     fn outer_hangul(self, w: Scale) -> Scored
         requires { ⌜ SmallScale w ⌝ }
         requires { ⌜ SmallHeld (self .held) ⌝ }
@@ -365,7 +367,7 @@ fn plain(gain: i64) -> Scored
     }
 }
 
-// Whether the byte before and this one are a pair that code page 949 leaves to its users.
+// Whether the byte before and this one are a pair that code page 949 leaves to its users: the rows C9 and FE.
 fn is_user_pair(prev_byte: u8, b: u8) -> bool
     ensures { λ r. ⌜ r ≡ isUserPair «prev_byte» b ⌝ }
 {
@@ -378,6 +380,7 @@ fn is_user_pair(prev_byte: u8, b: u8) -> bool
     false
 }
 
+// Leads with which MacKorean has symbols besides those of KS X 1001.
 fn is_mac_lead(b: u8) -> bool
     ensures { λ r. ⌜ r ≡ isMacLead b ⌝ }
 {
@@ -387,7 +390,7 @@ fn is_mac_lead(b: u8) -> bool
     }
 }
 
-// Whether they are a symbol of MacKorean outside code page 949.
+// Whether they are such a symbol: its second byte is no trail byte of code page 949.
 fn is_mac_symbol(prev_byte: u8, b: u8) -> bool
     ensures { λ r. ⌜ r ≡ isMacSymbol «prev_byte» b ⌝ }
 {
@@ -400,7 +403,7 @@ fn is_mac_symbol(prev_byte: u8, b: u8) -> bool
     is_mac_lead(prev_byte)
 }
 
-// Whether the byte before is a single-byte extension where it stands before ASCII, 80 or FF.
+// Whether the byte before is a single byte of MacKorean where it stands before ASCII, 80 or FF. It is a lead too.
 fn is_extension(prev_byte: u8) -> bool
     ensures { λ r. ⌜ r ≡ isExtension «prev_byte» ⌝ }
 {
@@ -410,7 +413,7 @@ fn is_extension(prev_byte: u8) -> bool
     prev_byte < 0x85
 }
 
-// The extensions that are no leads.
+// The single bytes of MacKorean that are no leads.
 fn is_lone(b: u8) -> bool
     ensures { λ r. ⌜ r ≡ isLone b ⌝ }
 {
@@ -559,7 +562,7 @@ impl EucKr {
         Ran::Live(m, s)
     }
 
-    // Whether the record is one that `bytes` bytes can have led to.
+    // Whether no bound of `bytes` bytes excludes the record.
     pub fn is_sound_for(self, bytes: u64) -> bool
         ensures { λ r. ⌜ r ≡ soundB bytes self ⌝ }
     {

@@ -1,4 +1,4 @@
--- A pointer is the pair's place in the index, and which byte sequences EUC-KR takes for what, both ways.
+-- A pointer is the pair's rank, and which byte sequences EUC-KR takes for what, both ways.
 use mathlib.Core.Path.{_≡_, refl, sym}
 use mathlib.Core.Bool.{true}
 use mathlib.Core.List.{List}
@@ -19,7 +19,7 @@ use Rattle.pairs.specs.declared.Event.the-variants.{Point}
 use Rattle.euckr_decoder.specs.Standard.{isTrail, layout, pointerOf, isMapped, pointsOf, pairOf}
 use Rattle.euckr_decoder.specs.Ways.{pair-mapped}
 
--- ---- pointers: the place by lead and then by trail, in the index, and no two the same
+-- ---- pointers: the rank by lead and then by trail, in the index, and no two the same
 pub counted : Counted layout
 unfolding count those numbers counts
 counted = counted-by layout (λ b t. omega (arith, range-true 0x41 0xFE b t)) refl tt

@@ -48,7 +48,7 @@ placeNumber (Logical m) = 5
 placeNumber (Visual m) = 6
 placeNumber (ArabicFrench m) = 7
 
--- the fresh machine of the same kind
+-- the fresh machine of the same kind; a kind's own fresh record takes no machine and is `fresh`
 unfoldable pub freshOf : Machine → Machine
 freshOf (Utf8 m) = Utf8 utf-8.fresh
 freshOf (Iso2022Jp m) = Iso2022Jp iso2022jp.fresh

@@ -11,8 +11,8 @@ use mir.Val.{SFits, toZ, ofZ}
 use Rattle.laws.specs.Run.{Out, none, live, alive, run, run-done, turn-live, turn-none}
 use Rattle.laws.specs.Sizes.{abs-add, fits64, thru, thru64}
 
--- P n is what holds of a record after n bytes, and a byte changes the score by at most g: after i bytes of xs, from a record that n
--- bytes led to, the record is m and the score changed by s
+-- P n is what holds of a record after n bytes, and a byte changes the score by at most g: after i bytes of xs, from a record of
+-- which P n holds, the record is m and the score changed by s
 pub record Going {D S : Type 0} (step : S → ℕ → Out D S) (P : ℕ → S → Type 0) (g n : ℕ) (start : S) (xs : List ℕ) (i : ℕ) (m : S) (s : ℤ) : Type 0 where
   pub within : i ≤ length xs
   pub sound : P (n + i) m

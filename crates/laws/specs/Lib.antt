@@ -1,4 +1,4 @@
--- What the other crates stand on: laws, and no code.
+-- What the other crates stand on: definitions and their laws, in most files together, and no code.
 pub mod Answer
 pub mod Arms
 pub mod Carried

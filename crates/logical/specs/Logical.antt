@@ -21,7 +21,7 @@ use Rattle.logical.specs.declared.Ran.the-variants.{Live, Dropped, Unfit
 abbrev pub fresh : Logical
 fresh = record { prev = 0; «prev_ascii» = true; «plausible_punctuation» = 0; «current_word_len» = 0; «longest_word» = 0 }
 
--- ASCII punctuation of caseless class 0 after an alphabetic class
+-- ASCII punctuation of caseless class 0 after an alphabetic class: where Hebrew in logical order has it
 abbrev pub plausibleOf : List ℕ → ℕ → ℕ → ℕ → Bool
 plausibleOf marks previous current b = punctuationOf current b && alphabeticOf marks previous
 
@@ -46,7 +46,7 @@ module _ (t : Lent) where
 abbrev pub closeOf : Lent → Logical → Outcome Logical
 closeOf t m = closeBy stepOf t m
 
--- what n bytes can have led to
+-- a record that no bound of n bytes excludes
 pub record Sound (n : ℕ) (m : Logical) : Type 0 where
   pub punctuation-most : m .«plausible_punctuation» ≤ n
   pub common : Common n (m .prev) (m .«current_word_len») (m .«longest_word»)

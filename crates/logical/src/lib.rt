@@ -1,4 +1,5 @@
-// A single-byte encoding in logical order, as windows-1255 is: punctuation follows the word.
+// Hebrew in logical order, as windows-1255 has it: bytes stand in the order in which they are read, so that punctuation follows
+// its word.
 ghost use mathlib.Core.Path.{_≡_};
 ghost use Prim.Native.Nat.{_*_};
 ghost use lib.ListN.{length};
@@ -124,7 +125,7 @@ impl Logical {
         Ran::Live(m, score)
     }
 
-    // Whether n bytes can have led to the record.
+    // Whether no bound of n bytes excludes the record.
     pub fn is_sound_for(self, n: u64) -> bool
         ensures { λ r. ⌜ r ≡ soundB n self ⌝ }
     {

@@ -30,7 +30,7 @@ period = 0x2E
 abbrev pub punctuation : List ℕ
 punctuation = period ∷ 0x2C ∷ 0x3A ∷ 0x3B ∷ 0x3F ∷ 0x21 ∷ []
 
--- the leads whose score is held
+-- the leads whose score is held: quotation marks, the bullet, dashes, S and Z with a caron and the degree sign in windows-1252
 abbrev pub problematicLeads : List ℕ
 problematicLeads = 0x8A ∷ 0x8B ∷ 0x8E ∷ 0x91 ∷ 0x92 ∷ 0x93 ∷ 0x94 ∷ 0x95 ∷ 0x96 ∷ 0x97 ∷ 0x9A ∷ 0x9B ∷ 0x9E ∷ 0xB0 ∷ []
 

@@ -1,4 +1,4 @@
--- The pairs of a lead and a trail byte, by lead and then by trail, and a pair's place among them: how many stand before it.
+-- The pairs of a lead and a trail byte, by lead and then by trail, and a pair's rank: how many stand before it.
 use mathlib.Core.Bool.{Bool, cond, _&&_, _||_}
 use mathlib.Core.List.{List, [], _∷_, _++_, map}
 use Prim.Native.Nat.{ℕ, zero, suc}

@@ -1,4 +1,4 @@
--- A pair's pointer is its place. So it lies below the number of pairs, and no two pairs share one.
+-- A pair's pointer is its rank. So it lies below the number of pairs, and no two pairs share one.
 use mathlib.Core.Path.{_≡_, refl, sym, ap, _∙_}
 use mathlib.Core.Bool.{Bool, true, false, cond, _&&_, _||_}
 use mathlib.Core.List.{List, [], _∷_, map, List·Memᴰ, List·Memᴰ·head, List·Memᴰ·tail, Memᴰ·cast, Memᴰ·append-left, Memᴰ·append-right}
@@ -123,7 +123,7 @@ not-before-itself : (lead b : ℕ) → before lead b (lead, b) ≡ false
 unfolding before
 not-before-itself lead b = rw (le-ltb lead lead (omega arith), eq-eqb lead lead refl, le-ltb b b (omega arith))
 
--- ---- places
+-- ---- ranks
 module _ (isTrail : ℕ → Bool) (byte : (b : ℕ) → isTrail b ≡ true → b < 256) where
   in-bytes : (test : ℕ → Bool) (x : ℕ) → test x ≡ true → x < 256 → List·Memᴰ x (bytes test)
   in-bytes test x t h = in-those test x (numbers 0 256) t (Memᴰ·cast (omega arith) (in-numbers x 0 256 h))
@@ -132,12 +132,12 @@ module _ (isTrail : ℕ → Bool) (byte : (b : ℕ) → isTrail b ≡ true → b
     in-pairs : In (pairsOf isTrail) lead b
     in-pairs = in-each lead b (bytes isLead) (bytes isTrail) (in-bytes isLead lead l (omega (arith, lead-bounds lead l))) (in-bytes isTrail b t (byte b t))
 
-    -- a pair's place is below the number of pairs
+    -- a pair's rank is below the number of pairs
     pub rank-below : rankOf isTrail lead b < length (pairsOf isTrail)
     rank-below =
         rw (← count-all (pairsOf isTrail)) (count-fewer (before lead b) (λ p. true) (λ p e. refl) (lead, b) (pairsOf isTrail) in-pairs (not-before-itself lead b) refl)
 
-    -- and below the place of each that it stands before
+    -- and below the rank of each that it stands before
     rank-less : (lead′ b′ : ℕ) → Before lead b lead′ b′ → rankOf isTrail lead b < rankOf isTrail lead′ b′
     rank-less lead′ b′ h =
         count-fewer (before lead b) (before lead′ b′) more (lead, b) (pairsOf isTrail) in-pairs (not-before-itself lead b) (true-before lead′ b′ lead b h)
@@ -147,7 +147,7 @@ module _ (isTrail : ℕ → Bool) (byte : (b : ℕ) → isTrail b ≡ true → b
             true-before lead′ b′ (p .0) (p .1)
             (⊎-elim (λ x. ⊎-elim (λ y. inl (omega arith)) (λ y. inl (omega arith)) h) (λ x. ⊎-elim (λ y. inl (omega arith)) (λ y. inr (omega arith, omega arith)) h) (before-true lead b (p .0) (p .1) e))
 
-  -- no two pairs share a place
+  -- no two pairs share a rank
   pub rank-once : (lead b lead′ b′ : ℕ) → isLead lead ≡ true → isTrail b ≡ true → isLead lead′ ≡ true → isTrail b′ ≡ true → rankOf isTrail lead b ≡ rankOf isTrail lead′ b′ → (lead ≡ lead′) × (b ≡ b′)
   rank-once lead b lead′ b′ l t l′ t′ e =
       let p : Before lead b lead′ b′ → ⊥ = λ h. omega (arith, rank-less lead b l t lead′ b′ h) in

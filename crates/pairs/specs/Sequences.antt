@@ -1,5 +1,5 @@
 -- Which byte sequences a pair decoder takes for what, from where no lead is pending: Yields says it by the trail bytes and by
--- what stands at a pair's place, Reads by the decoder's results.
+-- what stands at a pair's rank, Reads by the decoder's results.
 use mathlib.Core.Path.{_≡_}
 use mathlib.Core.Bool.{Bool, true, false, cond}
 use mathlib.Core.List.{List, [], _∷_}
@@ -16,7 +16,7 @@ use Rattle.pairs.specs.declared.Event.the-variants.{Pending, Point, Two,
 abbrev pub errorAt : ℕ → Event
 errorAt b = cond (ascii b) (Error 1) (Error 2)
 
--- points: what the places of the index stand for
+-- points: what the pointers into the index stand for
 module _ (isTrail : ℕ → Bool) (points : ℕ → CodePoints) where
   pub data Yields : List ℕ → Event → Type 0 where
     ascii-byte : (b : ℕ) → ascii b ≡ true → Yields (b ∷ []) (Point b)

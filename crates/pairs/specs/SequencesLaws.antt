@@ -53,7 +53,7 @@ module _ (e : Layout) (points : ℕ → CodePoints) (counted : Counted e) where
   Yielded bs v = Yields (e .is-trail) points bs v
 
   module _ (lead b : ℕ) (l : isLead lead ≡ true) where
-    -- what stands at the pair's place is seen
+    -- what stands at the pair's rank is seen
     seen-at : (ps : CodePoints) → e .is-trail b ≡ true → points (rankOf (e .is-trail) lead b) ≡ ps → seenBy e points lead b ≡ decoded 0 (eventOf 2 (returned b ps))
     seen-at ps t h = pair-seen e points lead b l ∙ rw (t, pointer-rank e counted lead b l t, h)
 

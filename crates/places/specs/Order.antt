@@ -17,7 +17,7 @@ use Rattle.places.specs.declared.place.Score.{Score}
 use Rattle.places.specs.declared.place.Score.the-variants.{None, Live}
 
 -- ---- one place
--- fresh where the score is none; else a score that so many bytes can have given
+-- fresh where the score is none; else a score that no bound of so many bytes excludes
 abbrev pub ScoredFor : ℕ → Machine → Score → Type 0
 ScoredFor reach m None = m ≡ freshOf m
 ScoredFor reach m (Live s) = natAbs s ≤ perByte * reach

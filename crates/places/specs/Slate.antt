@@ -43,7 +43,7 @@ feedFrom t last xs k (p ∷ ps) = feedOf (ownOf t k) last xs p ∷ feedFrom t la
 abbrev pub feedAll : Tables → Bool → List ℕ → List Place → List Place
 feedAll t last xs ps = feedFrom t last xs 0 ps
 
--- the part is no longer than a stream, each place is one that such a stream can have led to, the lent lengths are exact
+-- the part is no longer than a stream, no bound of such a stream excludes a place, the lent lengths are exact
 unfoldable pub feedableB : Tables → List ℕ → List Place → Bool
 feedableB t xs ps = leb (length xs) limit && (slateB limit false true ps && sizedB t)
 

@@ -49,7 +49,7 @@ pub record FitEnd (t : Own) (p : Place) : Type 0 where
   pub closes : Closes t (p .machine)
   pub small : BoundedScore (2 * perByte * limit) (p .score)
 
--- a part that is not too long, of a place that so many bytes can have led to, over tables of exact lengths
+-- a part that is not too long, of a place that no bound of a stream excludes, over tables of exact lengths
 pub record FitPart (t : Own) (p : Place) (bytes : ℕ) : Type 0 where
   pub sized : SizedAt (placeNumber (p .machine)) t
   pub sound : SoundFor limit limit (p .machine)

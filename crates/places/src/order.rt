@@ -28,7 +28,7 @@ fn reach(machine: Machine, bytes: u64, closed: bool) -> u64
     bytes
 }
 
-// Fresh with no score, or with one that so many bytes can have given.
+// Fresh with no score, or with one that no bound of so many bytes excludes.
 fn is_scored(machine: Machine, score: Score, reach: u64) -> bool
     requires { ⌜ reach ≤ limit + 1 ⌝ }
     ensures { λ r. ⌜ r ≡ scoredB reach machine score ⌝ }

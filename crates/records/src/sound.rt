@@ -26,7 +26,7 @@ fn is_sound_logical(m: Logical, bytes: u64, reach: u64) -> bool
     m.plausible_punctuation <= bytes && (m.longest_word <= bytes && m.is_sound_for(reach))
 }
 
-// Whether so many bytes can have led to it. `reach` has the closing space besides: it can lengthen a word and, in visual
+// Whether no bound of so many bytes excludes it. `reach` has the closing space besides: it can lengthen a word and, in visual
 // order, count punctuation, and nothing else.
 pub fn is_sound(machine: Machine, bytes: u64, reach: u64) -> bool
     ensures { λ r. ⌜ r ≡ soundB bytes reach machine ⌝ }

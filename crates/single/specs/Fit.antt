@@ -5,7 +5,7 @@ use lib.Dec.{ltb, leb}
 use Rattle.laws.specs.Limit.{limit}
 use Rattle.single.specs.Lent.{Lent, Sized, sizedB}
 
--- what the shared fields of a record can hold after n bytes
+-- the shared fields of a record that no bound of n bytes excludes
 pub record Common (n prev word longest : ℕ) : Type 0 where
   pub prev-below : prev < 128
   pub word-most : word ≤ n

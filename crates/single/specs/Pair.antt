@@ -27,6 +27,6 @@ pairGainOf marks pairs weights previous current =
     cond (adjacentOf marks previous current) (pairScore pairs previous current +ℤ weightOf weights latinAdjacency)
     (pairScore pairs previous current)
 
--- by what a byte changes the score of each of the four machines
+-- by what a byte changes the score, in each of the four machines, but for the case weight of Arabic-French
 abbrev pub gainOf : Lent → ℕ → Bool → ℕ → ℤ
 gainOf t previous prevAscii b = cond (asciiPair prevAscii b) (pos 0) (pairGainOf (t .marks) (t .pairs) (t .weights) previous (caselessOf t b))

@@ -29,7 +29,7 @@ fn is_sized(classes: &[u8], marks: &[u8], pairs: &[i16], weights: &[i32]) -> boo
             && (pairs.len() == lengths::PAIRS && weights.len() == lengths::WEIGHTS))
 }
 
-// Whether n bytes can have led to the fields that the four records share.
+// Whether no bound of n bytes excludes the fields that the four records share.
 pub fn is_common(n: u64, prev: u8, word: u64, longest: u64) -> bool
     ensures { λ r. ⌜ r ≡ commonB n prev word longest ⌝ }
 {
@@ -152,7 +152,7 @@ pub fn pair_gain(prev: u8, current: u8, marks: &[u8], pairs: &[i16], weights: &[
     pair
 }
 
-// By what a byte of that class changes the score.
+// By what a byte of that class changes the score, but for the case weight.
 pub fn gain(
     ascii_pair: bool,
     prev: u8,

@@ -30,6 +30,7 @@ pub record InOrder (s : State) : Type 0 where
   pub slate : SlateFor (s .front .bytes) (s .front .closed) (triggered (s .front)) (s .places)
 
 -- ---- the test
+-- no trigger
 unfoldable pub triggerlessB : ℕ → Bool
 triggerlessB b = not (isTrigger b)
 

@@ -28,7 +28,7 @@ pub fn start(bits: u8) -> State
 }
 
 impl State {
-    // Whether a start and feeds can have led to a state like this.
+    // Whether the state is in order: what a start and feeds lead to is, and other states besides.
     pub fn is_in_order(self) -> bool
         ensures { λ r. ⌜ r ≡ stateB self ⌝ }
     {

@@ -21,7 +21,7 @@ use Rattle.visual.specs.declared.Ran.the-variants.{Live, Dropped, Unfit}
 abbrev pub fresh : Visual
 fresh = record { prev = 0; «prev_ascii» = true; «prev_punctuation» = false; «plausible_punctuation» = 0; «current_word_len» = 0; «longest_word» = 0 }
 
--- an alphabetic class after ASCII punctuation of caseless class 0
+-- an alphabetic class after ASCII punctuation of caseless class 0: where Hebrew in visual order has it
 abbrev pub plausibleOf : Bool → Bool → Bool
 plausibleOf prevPunctuation alphabetic = alphabetic && prevPunctuation
 
@@ -47,7 +47,7 @@ module _ (t : Lent) where
 abbrev pub closeOf : Lent → Visual → Outcome Visual
 closeOf t m = closeBy stepOf t m
 
--- what n bytes can have led to
+-- a record that no bound of n bytes excludes
 pub record Sound (n : ℕ) (m : Visual) : Type 0 where
   pub punctuation-most : m .«plausible_punctuation» ≤ n
   pub common : Common n (m .prev) (m .«current_word_len») (m .«longest_word»)

@@ -1,4 +1,5 @@
-// A single-byte encoding in visual order, as ISO-8859-8 is: punctuation precedes the word.
+// Hebrew in visual order, as ISO-8859-8 has it: bytes stand as they are seen from the left, so that punctuation precedes its
+// word.
 ghost use mathlib.Core.Path.{_≡_};
 ghost use Prim.Native.Nat.{_*_};
 ghost use lib.ListN.{length};
@@ -129,7 +130,7 @@ impl Visual {
         Ran::Live(m, score)
     }
 
-    // Whether n bytes can have led to the record.
+    // Whether no bound of n bytes excludes the record.
     pub fn is_sound_for(self, n: u64) -> bool
         ensures { λ r. ⌜ r ≡ soundB n self ⌝ }
     {

@@ -23,6 +23,7 @@ pub data Weight : Type 0 where
   eucKrExtension : Weight
   longWord : Weight
 
+-- where it stands in the lent list
 abbrev pub indexOf : Weight → ℕ
 indexOf case = 0
 indexOf latinAdjacency = 1

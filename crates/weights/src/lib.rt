@@ -1,4 +1,4 @@
-// The 17 lent weights, by their places in document 01's order, and how one is read.
+// The 17 lent weights, by their indexes in document 01's order, and how one is read.
 ghost use mathlib.Core.Path.{_≡_};
 ghost use Prim.Native.Nat.{_≤_};
 ghost use lib.IntN.{pos, natAbs};
