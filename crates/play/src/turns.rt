@@ -1,7 +1,11 @@
 // Commands in turn, over the tables that are lent.
 ghost use mathlib.Core.Path.{_≡_};
 ghost use Prim.Native.Nat.{_+_, _≤_};
-ghost use lib.ListN.{length};
+ghost use lib.ListN.{length, take, drop};
+ghost use Rattle.tables.specs.Tables.{tables};
+ghost use Rattle.state.specs.State.{startOf};
+ghost use Rattle.detector.specs.Feed.{feedOf};
+ghost use Rattle.play.specs.Turn.{atHand, stateAfter, Played};
 ghost use Rattle.play.specs.Within.{Within};
 use crate::input;
 use crate::input::Span;
@@ -40,6 +44,7 @@ impl Stand {
     // All but the place in the input stays as it was.
     fn at(self, span: Span, next: Next) -> Stand
         ensures { λ r. ⌜ r .span ≡ span ⌝ }
+        ensures { λ r. ⌜ r .state ≡ self .state ⌝ }
     {
         let state = self.state;
         let sink = self.sink;
@@ -54,6 +59,7 @@ impl Stand {
     fn started(self, bits: u8) -> Stand
         requires { ⌜ self .span .at + 2 ≤ self .span .end ⌝ }
         ensures { λ r. ⌜ (r .span .at ≡ self .span .at + 2) × (r .span .end ≡ self .span .end) ⌝ }
+        ensures { λ r. ⌜ r .state ≡ startOf bits ⌝ }
     {
         let span = self.span;
         let sink = self.sink;
@@ -68,14 +74,15 @@ impl Stand {
     fn shown(self) -> Stand
         requires { ⌜ self .span .at + 1 ≤ self .span .end ⌝ }
         ensures { λ r. ⌜ (r .span .at ≡ self .span .at + 1) × (r .span .end ≡ self .span .end) ⌝ }
+        ensures { λ r. ⌜ r .state ≡ self .state ⌝ }
     {
-        let state = self.state;
+        let held = self.state;
         let span = self.span;
         let sink = self.sink;
         Stand {
-            state,
+            state: held,
             span: span.past(1),
-            sink: sink.with_state(state),
+            sink: sink.with_state(held),
             next: Next::Command,
         }
     }
@@ -84,6 +91,7 @@ impl Stand {
     fn filled(self, window: &mut [u8], want: usize) -> Stand
         requires { ⌜ Within (length (now window)) (self .span) ⌝ }
         ensures { λ r. ⌜ Within (length (now (window .entry))) (r .span) ⌝ }
+        ensures { λ r. ⌜ r .state ≡ self .state ⌝ }
     {
         let from = self.span;
         let span = input::fill(window, from, want);
@@ -124,6 +132,7 @@ fn fed(
     requires { ⌜ Within (length (now window)) (t .span) ⌝ }
     requires { ⌜ t .span .at + (6 + count) ≤ t .span .end ⌝ }
     ensures { λ r. ⌜ Within (length (now (window .entry))) (r .span) ⌝ }
+    ensures { λ r. ⌜ r .state ≡ feedOf (tables (now (classes4 .entry)) (now (marks4 .entry)) (now (pairs4 .entry)) (now (classes5 .entry)) (now (marks5 .entry)) (now (pairs5 .entry)) (now (classes6 .entry)) (now (marks6 .entry)) (now (pairs6 .entry)) (now (classes7 .entry)) (now (marks7 .entry)) (now (pairs7 .entry)) (now (big5 .entry)) (now (euckr .entry)) (now (jis .entry)) (now (extras .entry)) (now (weights .entry))) (t .state) (take count (drop (t .span .at + 6) (now (window .entry)))) last .state ⌝ }
 {
     let span = t.span;
     let sink = t.sink;
@@ -185,6 +194,7 @@ fn turn(
 ) -> Stand
     requires { ⌜ Within (length (now window)) (t .span) ⌝ }
     ensures { λ r. ⌜ Within (length (now (window .entry))) (r .span) ⌝ }
+    ensures { λ r. ⌜ r .state ≡ stateAfter (tables (now (classes4 .entry)) (now (marks4 .entry)) (now (pairs4 .entry)) (now (classes5 .entry)) (now (marks5 .entry)) (now (pairs5 .entry)) (now (classes6 .entry)) (now (marks6 .entry)) (now (pairs6 .entry)) (now (classes7 .entry)) (now (marks7 .entry)) (now (pairs7 .entry)) (now (big5 .entry)) (now (euckr .entry)) (now (jis .entry)) (now (extras .entry)) (now (weights .entry))) (t .state) (atHand (now (window .entry)) (t .span)) ⌝ }
 {
     let span = t.span;
     let at = span.at;
@@ -246,6 +256,7 @@ fn turns(
 ) -> Stand
     requires { ⌜ Within (length (now window)) (from .span) ⌝ }
     ensures { λ r. ⌜ Within (length (now (window .entry))) (r .span) ⌝ }
+    ensures { λ r. ⌜ Played (tables (now (classes4 .entry)) (now (marks4 .entry)) (now (pairs4 .entry)) (now (classes5 .entry)) (now (marks5 .entry)) (now (pairs5 .entry)) (now (classes6 .entry)) (now (marks6 .entry)) (now (pairs6 .entry)) (now (classes7 .entry)) (now (marks7 .entry)) (now (pairs7 .entry)) (now (big5 .entry)) (now (euckr .entry)) (now (jis .entry)) (now (extras .entry)) (now (weights .entry))) (from .state) (r .state) ⌝ }
 {
     let mut t = from;
     let mut count: u64 = 0;
@@ -366,6 +377,7 @@ fn round(
 ) -> Stand
     requires { ⌜ Within (length (now window)) (from .span) ⌝ }
     ensures { λ r. ⌜ Within (length (now (window .entry))) (r .span) × (length (now (window .exit)) ≡ length (now (window .entry))) ⌝ }
+    ensures { λ r. ⌜ Played (tables (now (classes4 .exit)) (now (marks4 .exit)) (now (pairs4 .exit)) (now (classes5 .exit)) (now (marks5 .exit)) (now (pairs5 .exit)) (now (classes6 .exit)) (now (marks6 .exit)) (now (pairs6 .exit)) (now (classes7 .exit)) (now (marks7 .exit)) (now (pairs7 .exit)) (now (big5 .exit)) (now (euckr .exit)) (now (jis .exit)) (now (extras .exit)) (now (weights .exit))) (from .state) (r .state) ⌝ }
 {
     let first = from.span;
     let second = lend_singles(
@@ -413,6 +425,7 @@ fn round(
 
 fn begun(from: i32, aloud: bool) -> Stand
     ensures { λ r. ⌜ Within 131072 (r .span) ⌝ }
+    ensures { λ r. ⌜ r .state ≡ startOf 255 ⌝ }
 {
     if aloud {
         return Stand {

@@ -20,7 +20,7 @@ begun-requires : tie.Need-begun-requires Inv-loop μ-loop
 begun-requires c κs = search needs
 
 loop-holds : tie.Need-loop-holds Inv-loop μ-loop
-loop-holds c = (omega arith, subst (λ (n : ℕ). Within n (c .begun .result .span)) (sym (length-replicate {A = ℕ} 131072 0)) (c .begun .ensures))
+loop-holds c = (omega arith, subst (λ (n : ℕ). Within n (c .begun .result .span)) (sym (length-replicate {A = ℕ} 131072 0)) (c .begun .ensures .0))
 
 round-requires : tie.Need-round-requires Inv-loop μ-loop
 round-requires c κs = c .before .before .before .before .before .before .before .before .before .before .before .before .before .before .before .before .before .before .before .loop .inv .1
@@ -41,7 +41,7 @@ loop-less : tie.Need-loop-less Inv-loop μ-loop
 loop-less c = omega (arith, c .before .before .before .before .before .before .before .before .before .before .before .before .before .before .before .before .before .before .before .before .before .loop-test .taken)
 
 loop-again : tie.Need-loop-again Inv-loop μ-loop
-loop-again c = (omega (arith, c .before .before .before .before .before .before .before .before .before .before .before .before .before .before .before .before .before .before .before .before .before .loop-test .taken), subst (λ (n : ℕ). Within n (c .before .before .round .result .span)) (sym (c .before .before .round .ensures .1)) (c .before .before .round .ensures .0))
+loop-again c = (omega (arith, c .before .before .before .before .before .before .before .before .before .before .before .before .before .before .before .before .before .before .before .before .before .loop-test .taken), subst (λ (n : ℕ). Within n (c .before .before .round .result .span)) (sym (c .before .before .round .ensures .0 .1)) (c .before .before .round .ensures .0 .0))
 
 ended-requires-2 : tie.Need-ended-requires-2 Inv-loop μ-loop
 ended-requires-2 c κs = search needs

@@ -13,7 +13,7 @@ same-length : tie.Need-same-length
 same-length c = search needs
 
 returns : tie.Need-returns
-returns c = rw (c .at .ensures) (c .before .before .before .before .fill .ensures .within)
+returns c = (rw (c .at .ensures .0) (c .before .before .before .before .fill .ensures .within), c .at .ensures .1)
 
 at-requires-2 : tie.Need-at-requires-2
 at-requires-2 c κs = search needs
@@ -22,7 +22,7 @@ same-length-2 : tie.Need-same-length-2
 same-length-2 c = search needs
 
 returns-2 : tie.Need-returns-2
-returns-2 c = rw (c .at2 .ensures) (c .before .before .before .before .before .before .fill .ensures .within)
+returns-2 c = (rw (c .at2 .ensures .0) (c .before .before .before .before .before .before .fill .ensures .within), c .at2 .ensures .1)
 
 at-requires-3 : tie.Need-at-requires-3
 at-requires-3 c κs = search needs
@@ -31,7 +31,7 @@ same-length-3 : tie.Need-same-length-3
 same-length-3 c = search needs
 
 returns-3 : tie.Need-returns-3
-returns-3 c = rw (c .at3 .ensures) (c .before .before .before .before .before .before .fill .ensures .within)
+returns-3 c = (rw (c .at3 .ensures .0) (c .before .before .before .before .before .before .fill .ensures .within), c .at3 .ensures .1)
 
 pub filled-spec : {M : Type 1} → statement M
 filled-spec =
