@@ -7,10 +7,11 @@ use native.Mathlib.Nat.{add-zero, zero-add, add-suc, suc-add, not-suc-le-zero}
 use native.Mathlib.Numerals.{add-one}
 use native.Mathlib.Omega.{arith}
 use lib.Dec.{eqb}
-use lib.ListN.{length, getD, take, drop, length-drop, take-append-drop}
+use lib.ListN.{length, getD, take, drop, length-take, length-drop, take-append-drop}
 use lib.Seq.{drop-cons, getD-drop}
 use borrow.Author.Tests.{eq-eqb, ne-eqb, eqb-true}
-use Rattle.laws.specs.Lists.{any}
+use Rattle.laws.specs.Lists.{any, block-is}
+use Rattle.laws.specs.Tests.{neither}
 use Rattle.octets.specs.Octets.{nonAscii}
 use Rattle.context.specs.declared.Scanned.{Scanned}
 use Rattle.context.specs.declared.Scanned.the-variants.{Escape, NonAscii, End}
@@ -32,7 +33,7 @@ scan-triggerless : (n b : ℕ) (bs : List ℕ) → isTrigger b ≡ false → sca
 unfolding scanFrom headOf
 scan-triggerless n b bs e = let q : n + suc (length (headOf bs)) ≡ n + 1 + length (headOf bs) = omega arith in rw (e, q)
 
--- ---- for a loop: at its end, and one turn at i
+-- ---- for a loop over bytes: at its end, and one turn at i
 pub scan-done : (n : ℕ) (xs : List ℕ) → length xs ≤ 0 → End ≡ scanFrom n xs
 unfolding scanFrom headOf
 scan-done n [] h = refl
@@ -53,6 +54,21 @@ module _ (xs : List ℕ) (i : ℕ) (h : i < length xs) where
   turn-triggerless e f =
       let q : eqb (getD xs i 0) escape ≡ false = ne-eqb _ _ e in
       sym (ap (scanFrom i) (drop-cons xs i 0 h) ∙ scan-triggerless i (getD xs i 0) (drop (suc i) xs) (rw (q, f)) ∙ rw add-one)
+
+-- ---- for a loop over blocks: past a list with no trigger, and one turn over the block from i to e
+pub scan-past : (n : ℕ) (xs ys : List ℕ) → any isTrigger xs ≡ false → scanFrom n (xs ++ ys) ≡ scanFrom (n + length xs) ys
+unfolding any
+scan-past n [] ys e = rw add-zero
+scan-past n (x ∷ xs) ys e =
+    let q = neither (isTrigger x) (any isTrigger xs) e in
+    let s : n + 1 + length xs ≡ n + suc (length xs) = omega arith in
+    scan-triggerless n x (xs ++ ys) (q .0) ∙ (scan-past (n + 1) xs ys (q .1) ∙ ap (λ (k : ℕ). scanFrom k ys) s)
+
+pub turn-block : (xs : List ℕ) (i e : ℕ) → i ≤ e → e ≤ length xs → any isTrigger (take (e - i) (drop i xs)) ≡ false → scanFrom e (drop e xs) ≡ scanFrom i (drop i xs)
+turn-block xs i e h k q =
+    let block = take (e - i) (drop i xs) in
+    let n : i + length block ≡ e = simp (length-take, length-drop) (omega arith) in
+    sym (ap (scanFrom i) (sym (block-is xs i e h)) ∙ (scan-past i block (drop e xs) q ∙ ap (λ (m : ℕ). scanFrom m (drop e xs)) n))
 
 -- ---- the head has no trigger, and what follows it begins with one or is empty
 head-triggerless-at : (t : Bool) (b : ℕ) (l : List ℕ) → isTrigger b ≡ t → any isTrigger l ≡ false → any isTrigger (cond t [] (b ∷ l)) ≡ false

@@ -2,9 +2,12 @@
 // non-ASCII bytes.
 ghost use mathlib.Core.Path.{_≡_};
 ghost use mathlib.Core.List.{[], _∷_};
-ghost use lib.ListN.{length};
+ghost use lib.ListN.{length, drop};
+ghost use Prim.Native.Nat.{_≤_};
+ghost use Rattle.laws.specs.Lists.{any};
 ghost use Rattle.context.specs.Context.{bytesOf, contextOf, pushOf};
-ghost use Rattle.context.specs.Head.{scanOf, nonAsciiCount};
+ghost use Rattle.context.specs.Head.{isTrigger, scanOf, nonAsciiCount};
+ghost use Rattle.context.specs.HeadLaws.{scanFrom};
 
 // The last two bytes of an all-ASCII beginning, or fewer (`BeforeNonAscii` in the Rust).
 pub struct Context {
@@ -88,18 +91,57 @@ impl Context {
     }
 }
 
-pub fn count_non_ascii(buffer: &[u8]) -> u64
-    ensures { λ r. ⌜ r ≡ nonAsciiCount (now (buffer .entry)) ⌝ }
+// A block is looked through to its end with no early exit, so that the compiler takes sixteen bytes at a time; only the block
+// that has a trigger, and what is left after the last whole block, are gone through byte by byte.
+fn is_trigger(b: u8) -> bool
+    ensures { λ r. ⌜ r ≡ isTrigger b ⌝ }
+{
+    if b == 0x1B {
+        return true;
+    }
+    octets::is_non_ascii(b)
+}
+
+// Whether a block has a trigger. `|` and not `||`, and no `if`: either would make it an early exit.
+fn has_trigger(block: &[u8]) -> bool
+    ensures { λ r. ⌜ r ≡ any isTrigger (now (block .entry)) ⌝ }
+{
+    let mut found = false;
+    let mut i = 0;
+    while i < block.len() {
+        found = found | is_trigger(block[i]);
+        i += 1;
+    }
+    found
+}
+
+// How many bytes of a block are non-ASCII: few enough for a u8, so that sixteen sums fit a register.
+fn count_block(block: &[u8]) -> u8
+    requires { ⌜ length (now block) ≤ 255 ⌝ }
+    ensures { λ r. ⌜ r ≡ nonAsciiCount (now (block .entry)) ⌝ }
 {
     let mut count = 0;
     let mut i = 0;
-    while i < buffer.len() {
-        if octets::is_non_ascii(buffer[i]) {
+    while i < block.len() {
+        if octets::is_non_ascii(block[i]) {
             count += 1;
         }
         i += 1;
     }
     count
+}
+
+pub fn count_non_ascii(buffer: &[u8]) -> u64
+    ensures { λ r. ⌜ r ≡ nonAsciiCount (now (buffer .entry)) ⌝ }
+{
+    let mut count = 0;
+    let mut at = 0;
+    while 128 <= buffer.len() - at {
+        let end = at + 128;
+        count += count_block(&buffer[at..end]) as u64;
+        at = end;
+    }
+    count + count_block(&buffer[at..]) as u64
 }
 
 // What the scan of a chunk finds: the trigger and its offset, or the end of the chunk.
@@ -109,10 +151,12 @@ pub enum Scanned {
     End,
 }
 
-pub fn scan(chunk: &[u8]) -> Scanned
-    ensures { λ r. ⌜ r ≡ scanOf (now (chunk .entry)) ⌝ }
+// The scan byte by byte, from an offset on.
+fn scan_from(chunk: &[u8], from: usize) -> Scanned
+    requires { ⌜ from ≤ length (now chunk) ⌝ }
+    ensures { λ r. ⌜ r ≡ scanFrom from (drop from (now (chunk .entry))) ⌝ }
 {
-    let mut at = 0;
+    let mut at = from;
     let found = loop {
         if at == chunk.len() {
             break Scanned::End;
@@ -127,4 +171,18 @@ pub fn scan(chunk: &[u8]) -> Scanned
         at += 1;
     };
     found
+}
+
+pub fn scan(chunk: &[u8]) -> Scanned
+    ensures { λ r. ⌜ r ≡ scanOf (now (chunk .entry)) ⌝ }
+{
+    let mut at = 0;
+    while 64 <= chunk.len() - at {
+        let end = at + 64;
+        if has_trigger(&chunk[at..end]) {
+            break;
+        }
+        at = end;
+    }
+    scan_from(chunk, at)
 }

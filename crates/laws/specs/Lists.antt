@@ -1,13 +1,13 @@
 -- Lists, and parts of them: whether some element passes a test, how many do, the last few, what stands from a place on.
 use mathlib.Core.Path.{_≡_, refl, sym, ap, _∙_}
-use mathlib.Core.Bool.{Bool, true, false, cond, _||_}
+use mathlib.Core.Bool.{Bool, true, false, cond, _||_, or-assoc}
 use mathlib.Core.List.{List, [], _∷_, _++_}
 use Prim.Native.Nat.{ℕ, zero, suc, _+_, _-_, _<_, _≤_}
 use native.Mathlib.Nat.{not-suc-le-zero}
 use native.Mathlib.Numerals.{add-one}
 use native.Mathlib.Omega.{arith}
 use lib.Dec.{eqb}
-use lib.ListN.{length, getD, take, drop, length-append, length-drop}
+use lib.ListN.{length, getD, take, drop, length-append, length-drop, take-append-drop}
 use Rattle.laws.specs.Tests.{neither}
 use lib.Seq.{drop-cons, take-all, drop-append-le, drop-append-add, drop-drop}
 
@@ -44,6 +44,11 @@ module _ {A : Type 0} where
     pub any-miss : p (getD xs i d) ≡ false → any p (drop (i + 1) xs) ≡ any p (drop i xs)
     unfolding any
     any-miss e = rw (drop-cons xs i d h, e, add-one)
+
+    -- what is found so far (t), with what the element says (r), or is still to find, is w all along
+    pub any-turn : (t r : Bool) {w : Bool} → r ≡ p (getD xs i d) → (t || any p (drop i xs)) ≡ w → ((t || r) || any p (drop (i + 1) xs)) ≡ w
+    unfolding any
+    any-turn t r e q = rw (or-assoc, e, add-one) (rw (drop-cons xs i d h) at q)
 
     pub count-hit : p (getD xs i d) ≡ true → 1 + count p (drop (i + 1) xs) ≡ count p (drop i xs)
     unfolding count
@@ -124,3 +129,12 @@ module _ {A : Type 0} where
   -- ---- the part from n on: `&s[n..]` as a callee sees it
   pub rest-is : (n : ℕ) (xs : List A) → take (length xs - n) (drop n xs) ≡ drop n xs
   rest-is n xs = take-all (length xs - n) (drop n xs) (rw length-drop (omega arith))
+
+  -- ---- the block from i to e: `&s[i..e]` as a callee sees it, and what follows it
+  pub block-is : (xs : List A) (i e : ℕ) → i ≤ e → take (e - i) (drop i xs) ++ drop e xs ≡ drop i xs
+  block-is xs i e h =
+      let n : i + (e - i) ≡ e = omega arith in
+      ap (λ (l : List A). take (e - i) (drop i xs) ++ l) (ap (λ (k : ℕ). drop k xs) (sym n) ∙ sym (drop-drop (e - i) i xs)) ∙ take-append-drop (e - i) (drop i xs)
+
+  pub count-block : (p : A → Bool) (xs : List A) (i e : ℕ) → i ≤ e → count p (drop i xs) ≡ count p (take (e - i) (drop i xs)) + count p (drop e xs)
+  count-block p xs i e h = sym (ap (count p) (block-is xs i e h)) ∙ count-append p (take (e - i) (drop i xs)) (drop e xs)

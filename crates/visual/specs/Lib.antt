@@ -1,3 +1,4 @@
+pub mod HeadLaws
+pub mod Noted
 pub mod Visual
 pub mod VisualLaws
-pub mod HeadLaws

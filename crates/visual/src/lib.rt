@@ -1,12 +1,13 @@
 // Hebrew in visual order, as ISO-8859-8 has it: bytes stand as they are seen from the left, so that punctuation precedes its
 // word.
 ghost use mathlib.Core.Path.{_≡_};
-ghost use Prim.Native.Nat.{_*_};
+ghost use Prim.Native.Nat.{_*_, _≤_};
 ghost use lib.ListN.{length};
 ghost use Rattle.laws.specs.Answer.{ran};
 ghost use Rattle.laws.specs.Run.{alive, run};
 ghost use Rattle.weights.specs.Weights.{perByte};
 ghost use Rattle.visual.specs.Visual.{fresh, plausibleOf, stepOf, answerOf, ranAs, ranOf, closedOf, Sound, soundB, Bounded};
+ghost use Rattle.visual.specs.Noted.{noted, roughOf};
 ghost use Rattle.laws.specs.Limit.{room};
 ghost use Rattle.single.specs.Fit.{Fit};
 ghost use Rattle.single.specs.Lent.{lent, Sized};
@@ -55,10 +56,12 @@ impl Visual {
         false
     }
 
+    // One byte. The flag is left for `noted` to find from the byte, where it is asked: before an alphabetic class, and at the
+    // end of the part.
     fn step(self, b: u8, classes: &[u8], marks: &[u8], pairs: &[i16], weights: &[i32]) -> Ran
         requires { ⌜ Sized (lent (now classes) (now marks) (now pairs) (now weights)) ⌝ }
         requires { ⌜ Sound (2 * room) self ⌝ }
-        ensures { λ r. ⌜ answerOf r ≡ ran (stepOf (lent (now (classes .entry)) (now (marks .entry)) (now (pairs .entry)) (now (weights .entry))) self b) ⌝ }
+        ensures { λ r. ⌜ answerOf r ≡ ran (roughOf (lent (now (classes .entry)) (now (marks .entry)) (now (pairs .entry)) (now (weights .entry))) self b) ⌝ }
         ensures { λ r. ⌜ Bounded perByte r ⌝ }
     {
         let class = classes[b as usize];
@@ -68,13 +71,12 @@ impl Visual {
         let caseless_class = class % Self::CLASSES;
         let alphabetic = single::is_non_latin_alphabetic(marks, caseless_class);
         let words = single::words_after(self.current_word_len, self.longest_word, alphabetic);
-        let punctuation = single::is_punctuation(caseless_class, b);
         if single::is_ascii_pair(self.prev_ascii, b) {
             return Ran::Live(
                 Visual {
                     prev: caseless_class,
                     prev_ascii: true,
-                    prev_punctuation: punctuation,
+                    prev_punctuation: false,
                     plausible_punctuation: self.plausible_punctuation,
                     current_word_len: words.current,
                     longest_word: words.longest,
@@ -88,13 +90,26 @@ impl Visual {
             Visual {
                 prev: caseless_class,
                 prev_ascii: octets::is_ascii(b),
-                prev_punctuation: punctuation,
+                prev_punctuation: false,
                 plausible_punctuation: single::count_if(self.plausible_punctuation, plausible),
                 current_word_len: words.current,
                 longest_word: words.longest,
             },
             score,
         )
+    }
+
+    // The record at byte i of a part, after steps over the bytes before.
+    fn noted(self, part: &[u8], i: usize) -> Visual
+        requires { ⌜ i ≤ length (now part) ⌝ }
+        ensures { λ r. ⌜ r ≡ noted (now (part .entry)) i self ⌝ }
+    {
+        if i == 0 {
+            return self;
+        }
+        let mut m = self;
+        m.prev_punctuation = single::is_punctuation(self.prev, part[i - 1]);
+        m
     }
 
     fn run_fit(
@@ -113,7 +128,8 @@ impl Visual {
         let mut score: i64 = 0;
         let mut i = 0;
         while i < part.len() {
-            match m.step(part[i], classes, marks, pairs, weights) {
+            match m.noted(part, i)
+                .step(part[i], classes, marks, pairs, weights) {
                 Ran::Live(next, gain) => {
                     m = next;
                     score = score + gain;
@@ -127,7 +143,7 @@ impl Visual {
             }
             i += 1;
         }
-        Ran::Live(m, score)
+        Ran::Live(m.noted(part, i), score)
     }
 
     // Whether no bound of n bytes excludes the record.

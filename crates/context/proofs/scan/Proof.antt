@@ -1,11 +1,11 @@
--- `scan` meets its contract. The invariant: the scan of what is left, counted on from here, is the scan of all.
--- The measure is what is left of the length.
+-- `scan` meets its contract. The invariant: the scan of what is left, counted on from here, is the scan of all; a block
+-- with no trigger keeps it. The measure is what is left of the length.
 use mathlib.Core.Path.{_≡_, refl, sym, _∙_}
-use Prim.Native.Nat.{_-_, _<_, _≤_}
+use Prim.Native.Nat.{_+_, _-_, _≤_}
 use native.Mathlib.Omega.{arith}
-use lib.ListN.{length, drop, length-drop}
+use lib.ListN.{length, drop}
 use borrow.Author.Needs.{needs}
-use Rattle.context.specs.HeadLaws.{scanFrom, scan-start, scan-done, turn-escape, turn-non-ascii, turn-triggerless}
+use Rattle.context.specs.HeadLaws.{scanFrom, scan-start, turn-block}
 use Rattle.context.proofs.scan.Statement.{statement}
 use Rattle.context.proofs.scan.Tie as tie
 
@@ -18,47 +18,40 @@ abbrev μ-loop : tie.MeasureT-loop
 loop-holds : tie.Need-loop-holds Inv-loop μ-loop
 loop-holds c = (omega arith, refl)
 
-shared-slice-read-b : tie.Need-shared-slice-read-b Inv-loop μ-loop
-shared-slice-read-b c = omega (arith, c .before .if1 .left)
+sub-loop : tie.Need-sub-loop Inv-loop μ-loop
+sub-loop c = omega arith
 
-is-non-ascii-requires : tie.Need-is-non-ascii-requires Inv-loop μ-loop
-is-non-ascii-requires c κs = search needs
+add-end : tie.Need-add-end Inv-loop μ-loop
+add-end c = omega arith
 
--- past the first test there is a byte to read
-more : (c : tie.Else1 Inv-loop μ-loop) → c .before .loop .at < length (c .before .before .before .args .chunk .now)
-more c = omega (arith, c .if1 .left)
+sub-has-trigger : tie.Need-sub-has-trigger Inv-loop μ-loop
+sub-has-trigger c = omega arith
 
-add-at : tie.Need-add-at Inv-loop μ-loop
-add-at c = omega (arith, more (c .before .before .before .before))
+part-has-trigger-start : tie.Need-part-has-trigger-start Inv-loop μ-loop
+part-has-trigger-start c = omega arith
+
+part-has-trigger-end : tie.Need-part-has-trigger-end Inv-loop μ-loop
+part-has-trigger-end c = omega arith
+
+has-trigger-requires : tie.Need-has-trigger-requires Inv-loop μ-loop
+has-trigger-requires c κs = search needs
 
 loop-less : tie.Need-loop-less Inv-loop μ-loop
-loop-less c = omega (arith, more (c .before .before .before .before))
+loop-less c = omega arith
 
 loop-again : tie.Need-loop-again Inv-loop μ-loop
 loop-again c =
-    let e = c .before .before .before .before in
-    let l = e .before in
-    (omega (arith, more e), turn-triggerless (l .before .before .args .chunk .now) (l .loop .at) (more e) (c .before .before .if2 .left) (sym (c .before .is-non-ascii .ensures) ∙ c .if3 .left) ∙ l .loop .inv .1)
+    let l = c .before .before .before .before in
+    let at = l .loop .at in
+    (omega arith, turn-block (l .before .before .args .chunk .now) at (at + 64) (omega arith) (omega arith) (sym (c .before .has-trigger .ensures) ∙ c .if1 .left) ∙ l .loop .inv .1)
+
+scan-from-requires : tie.Need-scan-from-requires Inv-loop μ-loop
+scan-from-requires c κs = omega arith
 
 returns : tie.Need-returns Inv-loop μ-loop
 returns c =
-    let l = c .before in
-    let xs = l .before .before .args .chunk .now in
-    scan-done (l .loop .at) (drop (l .loop .at) xs) (rw length-drop (omega (arith, c .if1 .taken))) ∙ (l .loop .inv .1 ∙ scan-start xs)
-
-returns-2 : tie.Need-returns-2 Inv-loop μ-loop
-returns-2 c =
-    let e = c .before .before in
-    let l = e .before in
-    let xs = l .before .before .args .chunk .now in
-    turn-escape xs (l .loop .at) (more e) (c .if2 .taken) ∙ (l .loop .inv .1 ∙ scan-start xs)
-
-returns-3 : tie.Need-returns-3 Inv-loop μ-loop
-returns-3 c =
-    let e = c .before .before .before .before in
-    let l = e .before in
-    let xs = l .before .before .args .chunk .now in
-    turn-non-ascii xs (l .loop .at) (more e) (c .before .before .if2 .left) (sym (c .before .is-non-ascii .ensures) ∙ c .if3 .taken) ∙ (l .loop .inv .1 ∙ scan-start xs)
+    let l = c .before .before in
+    c .scan-from .ensures ∙ (l .loop .inv .1 ∙ scan-start (l .before .before .args .chunk .now))
 
 pub scan-spec : {M : Type 1} → statement M
 scan-spec =
@@ -67,11 +60,13 @@ scan-spec =
     Inv-loop
     μ-loop
     loop-holds
-    shared-slice-read-b
-    is-non-ascii-requires
-    add-at
+    sub-loop
+    add-end
+    sub-has-trigger
+    part-has-trigger-start
+    part-has-trigger-end
+    has-trigger-requires
     loop-less
     loop-again
-    returns
-    returns-2
-    returns-3)
+    scan-from-requires
+    returns)
