@@ -101,6 +101,7 @@ fn main() {
     play_file(b"standard", b"cases");
     play_file(b"mild", b"cases");
     play_file(b"random", b"cases");
+    play_file(b"demo", b"starts");
     play_cut(b"demo", 0);
     play_cut(b"demo", 1);
     play_cut(b"demo", 365_251);

@@ -1,6 +1,8 @@
 // The demonstration data of document 01, and a feed over it. The four single-byte places have the same tables, so each kind
 // of table is here once, with room for one entry more; the three indexes are zero and share one array.
 ghost use Prim.Native.Nat.{_<_, _≤_};
+use crate::rows;
+use crate::rows::Rows;
 use detector::feed;
 use detector::feed::Fed;
 use lengths::BIG5;
@@ -10,14 +12,8 @@ use lengths::EXTRAS;
 use lengths::JIS;
 use lengths::MARKS;
 use lengths::PAIRS;
+use lengths::WEIGHTS;
 use state::State;
-
-// Which of the seventeen lent slices has not its length, if any.
-pub(crate) enum Odd {
-    None,
-    Short(usize),
-    Long(usize),
-}
 
 fn class(b: usize) -> u8 {
     match b {
@@ -29,7 +25,7 @@ fn class(b: usize) -> u8 {
     }
 }
 
-pub(crate) fn fill_classes(classes: &mut [u8]) {
+fn fill_classes(classes: &mut [u8]) {
     let mut b: usize = 0;
     while b < classes.len() {
         classes[b] = class(b);
@@ -37,47 +33,71 @@ pub(crate) fn fill_classes(classes: &mut [u8]) {
     }
 }
 
-// Only class 2 is alphabetic.
-pub(crate) fn fill_marks(marks: &mut [u8]) {
-    if 2 < marks.len() {
-        marks[2] = 1;
+fn at_most(n: u64, most: usize) -> usize
+    ensures { λ r. ⌜ r ≤ most ⌝ }
+{
+    if n < most as u64 {
+        return n as usize;
     }
-}
-
-// 10 for class 2 after class 2.
-pub(crate) fn fill_pairs(pairs: &mut [i16]) {
-    if 258 < pairs.len() {
-        pairs[258] = 10;
-    }
-}
-
-// Case, Latin adjacency, Big5 PUA.
-pub(crate) fn fill_weights(weights: &mut [i32]) {
-    if 7 < weights.len() {
-        weights[0] = -3;
-        weights[1] = -5;
-        weights[7] = -7;
-    }
+    most
 }
 
 // The length that slice k is lent with; `most` is what there is.
-pub(crate) fn length(odd: Odd, k: usize, exact: usize, most: usize) -> usize
+fn length(rows: &Rows, k: u64, exact: u64, most: usize) -> usize
     requires { ⌜ (0 < exact) × (exact < 100000) ⌝ }
     ensures { λ r. ⌜ r ≤ most ⌝ }
 {
-    let wanted = match odd {
-        Odd::None => exact,
-        Odd::Short(t) => if t == k { exact - 1 } else { exact },
-        Odd::Long(t) => if t == k { exact + 1 } else { exact },
-    };
-    if wanted <= most { wanted } else { most }
+    if rows::number(rows, 9, b's', 0) == k {
+        return at_most(exact - 1, most);
+    }
+    if rows::number(rows, 9, b'g', 0) == k {
+        return at_most(exact + 1, most);
+    }
+    at_most(exact, most)
 }
 
-pub(crate) fn fed(
+// The tables of the single-byte places, each cut to its length.
+fn lend_singles(
     state: State,
+    rows: &Rows,
     chunk: &[u8],
-    last: bool,
-    odd: Odd,
+    classes: &[u8],
+    marks: &[u8],
+    pairs: &[i16],
+    big5: &[u32],
+    euckr: &[u32],
+    jis: &[u32],
+    extras: &[i16],
+    weights: &[i32],
+) -> Fed {
+    feed::feed(
+        state,
+        chunk,
+        rows::flag(rows, 9, b'l', 0),
+        &classes[0..length(rows, 1, CLASSES as u64, classes.len())],
+        &marks[0..length(rows, 2, MARKS as u64, marks.len())],
+        &pairs[0..length(rows, 3, PAIRS as u64, pairs.len())],
+        &classes[0..length(rows, 4, CLASSES as u64, classes.len())],
+        &marks[0..length(rows, 5, MARKS as u64, marks.len())],
+        &pairs[0..length(rows, 6, PAIRS as u64, pairs.len())],
+        &classes[0..length(rows, 7, CLASSES as u64, classes.len())],
+        &marks[0..length(rows, 8, MARKS as u64, marks.len())],
+        &pairs[0..length(rows, 9, PAIRS as u64, pairs.len())],
+        &classes[0..length(rows, 10, CLASSES as u64, classes.len())],
+        &marks[0..length(rows, 11, MARKS as u64, marks.len())],
+        &pairs[0..length(rows, 12, PAIRS as u64, pairs.len())],
+        big5,
+        euckr,
+        jis,
+        extras,
+        weights,
+    )
+}
+
+fn lend(
+    state: State,
+    rows: &Rows,
+    chunk: &[u8],
     classes: &[u8],
     marks: &[u8],
     pairs: &[i16],
@@ -85,26 +105,55 @@ pub(crate) fn fed(
     extras: &[i16],
     weights: &[i32],
 ) -> Fed {
-    feed::feed(
+    lend_singles(
         state,
+        rows,
         chunk,
-        last,
-        &classes[0..length(odd, 0, CLASSES, classes.len())],
-        &marks[0..length(odd, 1, MARKS, marks.len())],
-        &pairs[0..length(odd, 2, PAIRS, pairs.len())],
-        &classes[0..length(odd, 3, CLASSES, classes.len())],
-        &marks[0..length(odd, 4, MARKS, marks.len())],
-        &pairs[0..length(odd, 5, PAIRS, pairs.len())],
-        &classes[0..length(odd, 6, CLASSES, classes.len())],
-        &marks[0..length(odd, 7, MARKS, marks.len())],
-        &pairs[0..length(odd, 8, PAIRS, pairs.len())],
-        &classes[0..length(odd, 9, CLASSES, classes.len())],
-        &marks[0..length(odd, 10, MARKS, marks.len())],
-        &pairs[0..length(odd, 11, PAIRS, pairs.len())],
-        &index[0..length(odd, 12, BIG5, index.len())],
-        &index[0..length(odd, 13, EUC_KR, index.len())],
-        &index[0..length(odd, 14, JIS, index.len())],
-        &extras[0..length(odd, 15, EXTRAS, extras.len())],
-        &weights[0..length(odd, 16, lengths::WEIGHTS, weights.len())],
+        classes,
+        marks,
+        pairs,
+        &index[0..length(rows, 13, BIG5 as u64, index.len())],
+        &index[0..length(rows, 14, EUC_KR as u64, index.len())],
+        &index[0..length(rows, 15, JIS as u64, index.len())],
+        &extras[0..length(rows, 16, EXTRAS as u64, extras.len())],
+        &weights[0..length(rows, 17, WEIGHTS as u64, weights.len())],
     )
+}
+
+// Only class 2 is alphabetic; 10 for class 2 after class 2; case, Latin adjacency, Big5 PUA.
+fn over(state: State, rows: &Rows, chunk: &[u8]) -> Fed {
+    let mut classes = [0u8; CLASSES + 1];
+    let mut marks = [0u8; MARKS + 1];
+    let mut pairs = [0i16; PAIRS + 1];
+    let index = [0u32; EUC_KR + 1];
+    let extras = [0i16; EXTRAS + 1];
+    let mut weights = [0i32; WEIGHTS + 1];
+    marks[2] = 1;
+    pairs[258] = 10;
+    weights[0] = -3;
+    weights[1] = -5;
+    weights[7] = -7;
+    fill_classes(&mut classes);
+    lend(
+        state,
+        rows,
+        chunk,
+        &classes,
+        &marks,
+        &pairs,
+        &index,
+        &extras,
+        &weights,
+    )
+}
+
+fn part(state: State, rows: &Rows, bytes: &[u8]) -> Fed {
+    let end = at_most(rows::number(rows, 9, b'b', 4), bytes.len());
+    let start = at_most(rows::number(rows, 9, b'a', 0), end);
+    over(state, rows, &bytes[start..end])
+}
+
+// Four bytes, a non-ASCII one among them, so that the flag is set where they are fed; then those of the printed case.
+pub(crate) fn fed(state: State, rows: &Rows) -> Fed {
+    part(state, rows, b"a\xE0A.ab \xE0\xE1.")
 }
