@@ -1,22 +1,14 @@
 -- A buffer of 2,048 bytes has room for the ten lines of any state: no number has more than 20 digits, and the words are short.
 use mathlib.Core.Path.{_≡_, refl}
-use mathlib.Core.Bool.{Bool, true, false}
+use mathlib.Core.Bool.{Bool}
 use mathlib.Core.List.{List, [], _∷_, _++_}
-use Prim.Native.Nat.{ℕ, zero, suc, _+_, _*_, _/_, _%_, _≤_}
-use Prim.Native.String.{String}
-use native.Mathlib.Nat.{zero-add}
+use Prim.Native.Nat.{ℕ, zero, suc, _*_, _≤_}
 use native.Mathlib.Omega.{arith}
-use lib.Dec.{leb, ltb}
-use lib.IntN.{ℤ, pos, negsuc}
-use lib.ListN.{length, take, drop, length-append}
+use lib.ListN.{length, take, drop}
 use lib.Seq.{take-nil}
-use borrow.Author.Tests.{leb-true}
-use Rattle.io.specs.Digits.{glyph}
-use Rattle.laws.specs.Tests.{either}
-use Rattle.names.specs.Names.{placeName}
+use Rattle.names.specs.NamesLaws.{place-name}
+use Rattle.scribe.specs.FitsLaws.{Fits, text, line-end, joined, wide, flag, hex, decimal, signed, whole}
 use Rattle.scribe.specs.Page.{page, onto}
-use Rattle.scribe.specs.PageLaws.{written}
-use Rattle.scribe.specs.Text.{ascii, flagOf, hexOf, decimalIn, decimalOf, signedOf}
 use Rattle.context.specs.Context.{bytesOf}
 use Rattle.pairs.specs.declared.Held.{Held}
 use Rattle.pairs.specs.declared.Held.the-variants.{Nothing, Score}
@@ -38,54 +30,13 @@ use Rattle.kinds.specs.declared.machine.Machine.{Machine}
 use Rattle.kinds.specs.declared.machine.Machine.the-variants.{Utf8, Iso2022Jp, EucKr, Big5, Caseless, Logical, Visual, ArabicFrench}
 use Rattle.places.specs.declared.place.Place.{Place}
 use Rattle.places.specs.declared.place.Score as score
+use Rattle.sheet.specs.SheetLaws.{leader-short}
 use Rattle.state.specs.Leader.{leaderOf}
 use Rattle.state.specs.declared.State.{State}
 use Rattle.state.specs.declared.front.Front.{Front}
-use Rattle.state.specs.declared.leader.Leader as leader
 use Rattle.lines.specs.Fields.{heldText, utf8Text, iso2022jpText, euckrText, big5Text, classText, wordsText, caselessText, logicalText, visualText, arabicFrenchText}
 use Rattle.lines.specs.Names.{stateName, outName, koreanName, cjName, caseName}
-use Rattle.lines.specs.Show.{newline, savedText, frontText, recordText, scoredText, placeText, placesText, leadText, stateText}
-
--- so many bytes at most
-record Fits (n : ℕ) (xs : List ℕ) : Type 0 where
-  short : length xs ≤ n
-
-text : (s : String) → Fits (length (ascii s)) (ascii s)
-text s = record { short = omega arith }
-
-line-end : Fits 1 newline
-line-end = record { short = omega arith }
-
-joined : {m n : ℕ} {xs ys : List ℕ} → Fits m xs → Fits n ys → Fits (m + n) (xs ++ ys)
-joined {xs = xs} {ys = ys} f g = record { short = omega (arith, length-append xs ys, f .short, g .short) }
-
-wide : {m n : ℕ} {xs : List ℕ} → Fits m xs → leb m n ≡ true → Fits n xs
-wide {m = m} {n = n} f e = record { short = omega (arith, leb-true m n e, f .short) }
-
--- ---- flags and numbers
-flag : (f : Bool) → Fits 1 (flagOf f)
-unfolding flagOf
-flag true = text "1"
-flag false = text "0"
-
-hex : (b : ℕ) → Fits 2 (hexOf b)
-unfolding hexOf
-hex b = record { short = omega arith }
-
-decimal-in : (k n : ℕ) → Fits k (decimalIn k n)
-unfolding decimalIn
-decimal-in zero n = record { short = omega arith }
-decimal-in (suc k) n =
-    either (Fits (suc k)) (ltb n 10) (λ e. record { short = omega arith }) (λ e. record { short = omega (arith, length-append (decimalIn k (n / 10)) (glyph (n % 10) ∷ []), decimal-in k (n / 10) .short) })
-
-decimal : (n : ℕ) → Fits 20 (decimalOf n)
-unfolding decimalOf
-decimal n = decimal-in 20 n
-
-signed : (z : ℤ) → Fits 21 (signedOf z)
-unfolding signedOf
-signed (pos n) = wide (decimal n) refl
-signed (negsuc n) = joined (text "-") (decimal (suc n))
+use Rattle.lines.specs.Show.{savedText, frontText, recordText, scoredText, placeText, placesText, stateText}
 
 held : (h : Held) → Fits 21 (heldText h)
 unfolding heldText
@@ -93,17 +44,6 @@ held Nothing = wide (text "none") refl
 held (Score z) = signed z
 
 -- ---- names
-place-name : (k : ℕ) → Fits 13 (placeName k)
-unfolding placeName
-place-name zero = wide (text "utf-8") refl
-place-name (suc zero) = wide (text "iso-2022-jp") refl
-place-name (suc (suc zero)) = wide (text "euc-kr") refl
-place-name (suc (suc (suc zero))) = wide (text "big5") refl
-place-name (suc (suc (suc (suc zero)))) = wide (text "caseless") refl
-place-name (suc (suc (suc (suc (suc zero))))) = wide (text "logical") refl
-place-name (suc (suc (suc (suc (suc (suc zero)))))) = wide (text "visual") refl
-place-name (suc (suc (suc (suc (suc (suc (suc k))))))) = wide (text "arabic-french") refl
-
 state-name : (s : decoder.DecoderState) → Fits 12 (stateName s)
 unfolding stateName
 state-name decoder.the-variants.Ascii = wide (text "ascii") refl
@@ -183,20 +123,12 @@ front : (f : Front) → Fits 91 (frontText f)
 unfolding frontText
 front f = joined (joined (joined (joined (joined (joined (text "front context=") (saved (f .context .len) (f .context .first) (f .context .second))) (joined (text " esc=") (flag (f .«esc_seen»)))) (joined (text " nonascii=") (decimal (f .«non_ascii_seen»)))) (joined (text " closed=") (flag (f .closed)))) (joined (text " bytes=") (decimal (f .bytes)))) line-end
 
-lead : (l : leader.Leader) → Fits 13 (leadText l)
-unfolding leadText
-lead leader.the-variants.Ascii = wide (text "ascii") refl
-lead leader.the-variants.None = wide (text "none") refl
-lead (leader.the-variants.Place k) = place-name k
-
-pub state-short : (s : State) → length (s .places) ≡ 8 → length (stateText s) ≤ 2048
+pub state-short : (s : State) → length (s .places) ≡ 8 → Fits 2048 (stateText s)
 unfolding stateText
 state-short s e =
-    let f = joined (joined (front (s .front)) (places (s .places))) (joined (joined (text "leader ") (lead (leaderOf s))) line-end) in
-    omega (arith, e, f .short)
+    let f = joined (joined (front (s .front)) (places (s .places))) (leader-short (leaderOf s)) in
+    record { short = omega (arith, e, f .short) }
 
 -- What is written into such a buffer is the whole text.
 pub state-whole : (s : State) (xs : List ℕ) → length (s .places) ≡ 8 → length xs ≡ 2048 → onto (page xs 0) (stateText s) ≡ page (stateText s ++ drop (length (stateText s)) xs) (length (stateText s))
-state-whole s xs e h =
-    let w = written (stateText s) xs 0 (omega (arith, h, state-short s e)) in
-    rw zero-add at w
+state-whole s xs e h = whole 2048 xs (stateText s) (state-short s e) (omega arith)

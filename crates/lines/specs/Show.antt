@@ -2,23 +2,20 @@
 use mathlib.Core.List.{List, [], _∷_, _++_}
 use Prim.Native.Nat.{ℕ}
 use Rattle.names.specs.Names.{placeName}
-use Rattle.scribe.specs.Text.{ascii, flagOf, hexOf, decimalOf, signedOf}
+use Rattle.scribe.specs.Text.{ascii, newline, flagOf, hexOf, decimalOf, signedOf}
 use Rattle.context.specs.Context.{bytesOf}
 use Rattle.kinds.specs.Kinds.{placeNumber}
 use Rattle.kinds.specs.declared.machine.Machine.{Machine}
 use Rattle.kinds.specs.declared.machine.Machine.the-variants.{Utf8, Iso2022Jp, EucKr, Big5, Caseless, Logical, Visual, ArabicFrench}
 use Rattle.places.specs.declared.place.Place.{Place}
 use Rattle.places.specs.declared.place.Score as score
+use Rattle.sheet.specs.Sheet.{leaderLine}
 use Rattle.state.specs.Leader.{leaderOf}
 use Rattle.state.specs.Reply as reply
 use Rattle.state.specs.declared.reply.Reply.{Reply}
 use Rattle.state.specs.declared.front.Front.{Front}
-use Rattle.state.specs.declared.leader.Leader as leader
 use Rattle.state.specs.declared.State.{State}
 use Rattle.lines.specs.Fields.{utf8Text, iso2022jpText, euckrText, big5Text, caselessText, logicalText, visualText, arabicFrenchText}
-
-abbrev pub newline : List ℕ
-newline = 10 ∷ []
 
 unfoldable pub replyText : Reply → List ℕ
 replyText r = (ascii "reply " ++ decimalOf (reply.numberOf r)) ++ (ascii " " ++ flagOf (reply.replyFlag r)) ++ newline
@@ -66,11 +63,6 @@ unfoldable pub placesText : List Place → List ℕ
 placesText [] = []
 placesText (p ∷ ps) = placeText p ++ placesText ps
 
--- ---- the leader
-unfoldable pub leadText : leader.Leader → List ℕ
-leadText leader.the-variants.Ascii = ascii "ascii"
-leadText leader.the-variants.None = ascii "none"
-leadText (leader.the-variants.Place k) = placeName k
-
+-- ---- all of them, and the line of the leader, which the printed sheet has too
 unfoldable pub stateText : State → List ℕ
-stateText s = frontText (s .front) ++ placesText (s .places) ++ (ascii "leader " ++ leadText (leaderOf s) ++ newline)
+stateText s = frontText (s .front) ++ placesText (s .places) ++ leaderLine (leaderOf s)

@@ -1,10 +1,9 @@
 // Whole lines: a reply, and the ten of a state.
 ghost use mathlib.Core.Path.{_≡_};
-ghost use mathlib.Core.List.{_++_};
 ghost use Rattle.context.specs.Context.{bytesOf};
-ghost use Rattle.lines.specs.Show.{newline, savedText, replyText, frontText, recordText, scoredText, placeText, placesText, leadText, stateText};
+ghost use Rattle.lines.specs.Show.{savedText, replyText, frontText, recordText, scoredText, placeText, placesText, stateText};
 ghost use Rattle.scribe.specs.Page.{page, onto};
-ghost use Rattle.scribe.specs.Text.{ascii};
+ghost use Rattle.scribe.specs.Text.{newline};
 use crate::fields;
 use context::Context;
 use kinds::machine::Machine;
@@ -13,10 +12,10 @@ use places::place::Place;
 use places::place::Score;
 use places::place::Slate;
 use scribe::page;
+use sheet;
 use state::State;
 use state::front::Front;
 use state::leader;
-use state::leader::Leader;
 use state::reply::Reply;
 
 fn end_line(out: &mut [u8], at: usize) -> usize
@@ -111,24 +110,6 @@ fn places(out: &mut [u8], at: usize, slate: Slate) -> usize
     to
 }
 
-fn leader_name(out: &mut [u8], at: usize, leader: Leader) -> usize
-    ensures { λ r. ⌜ page (now (out .exit)) r ≡ onto (page (now (out .entry)) at) (leadText leader) ⌝ }
-{
-    match leader {
-        Leader::Ascii => page::word(out, at, b"ascii"),
-        Leader::None => page::word(out, at, b"none"),
-        Leader::Place(k) => names::place(out, at, k),
-    }
-}
-
-fn lead(out: &mut [u8], at: usize, leader: Leader) -> usize
-    ensures { λ r. ⌜ page (now (out .exit)) r ≡ onto (page (now (out .entry)) at) (ascii "leader " ++ leadText leader ++ newline) ⌝ }
-{
-    let a = page::word(out, at, b"leader ");
-    let b = leader_name(out, a, leader);
-    end_line(out, b)
-}
-
 pub fn state(out: &mut [u8], at: usize, state: State) -> usize
     ensures { λ r. ⌜ page (now (out .exit)) r ≡ onto (page (now (out .entry)) at) (stateText state) ⌝ }
 {
@@ -136,5 +117,5 @@ pub fn state(out: &mut [u8], at: usize, state: State) -> usize
     let slate = state.places;
     let a = front(out, at, first);
     let b = places(out, a, slate);
-    lead(out, b, leader::of(state))
+    sheet::leader_line(out, b, leader::of(state))
 }

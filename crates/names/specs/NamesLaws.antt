@@ -1,7 +1,8 @@
--- The last name, whatever the number above.
+-- The last name, whatever the number above; how long a name can be.
 use mathlib.Core.Path.{_≡_, refl}
 use Prim.Native.Nat.{ℕ, zero, suc}
 use Rattle.names.specs.Names.{placeName}
+use Rattle.scribe.specs.FitsLaws.{Fits, text, wide}
 use Rattle.scribe.specs.Text.{ascii}
 
 pub last-name : (k : ℕ) → (k ≡ 0 → ⊥) → (k ≡ 1 → ⊥) → (k ≡ 2 → ⊥) → (k ≡ 3 → ⊥) → (k ≡ 4 → ⊥) → (k ≡ 5 → ⊥) → (k ≡ 6 → ⊥) → ascii "arabic-french" ≡ placeName k
@@ -14,3 +15,15 @@ last-name (suc (suc (suc (suc zero)))) a b c d e f g = absurd (e refl)
 last-name (suc (suc (suc (suc (suc zero))))) a b c d e f g = absurd (f refl)
 last-name (suc (suc (suc (suc (suc (suc zero)))))) a b c d e f g = absurd (g refl)
 last-name (suc (suc (suc (suc (suc (suc (suc k))))))) a b c d e f g = refl
+
+-- no name has more than 13 bytes
+pub place-name : (k : ℕ) → Fits 13 (placeName k)
+unfolding placeName
+place-name zero = wide (text "utf-8") refl
+place-name (suc zero) = wide (text "iso-2022-jp") refl
+place-name (suc (suc zero)) = wide (text "euc-kr") refl
+place-name (suc (suc (suc zero))) = wide (text "big5") refl
+place-name (suc (suc (suc (suc zero)))) = wide (text "caseless") refl
+place-name (suc (suc (suc (suc (suc zero))))) = wide (text "logical") refl
+place-name (suc (suc (suc (suc (suc (suc zero)))))) = wide (text "visual") refl
+place-name (suc (suc (suc (suc (suc (suc (suc k))))))) = wide (text "arabic-french") refl

@@ -1,3 +1,4 @@
+pub mod FitsLaws
 pub mod Page
 pub mod PageLaws
 pub mod Text

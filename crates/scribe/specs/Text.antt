@@ -14,6 +14,9 @@ abbrev pub ascii : String → List ℕ
 ascii none = []
 ascii (c then s) = code c ∷ ascii s
 
+abbrev pub newline : List ℕ
+newline = 10 ∷ []
+
 -- `1` or `0`
 unfoldable pub flagOf : Bool → List ℕ
 flagOf f = cond f (ascii "1") (ascii "0")

@@ -14,17 +14,17 @@ places-requires c κs = search needs
 of-requires : tie.Need-of-requires
 of-requires c κs = search needs
 
-lead-requires : tie.Need-lead-requires
-lead-requires c κs = search needs
+leader-line-requires : tie.Need-leader-line-requires
+leader-line-requires c κs = search needs
 
 same-length : tie.Need-same-length
 same-length c = search needs
 
 returns : tie.Need-returns
 unfolding stateText
-returns c = follow _ _ _ (follow _ _ _ (c .before .before .before .before .before .before .before .before .before .before .before .front .ensures) (c .before .before .before .before .before .before .before .places .ensures)) (rw (c .before .before .before .of .ensures) at (c .before .before .lead .ensures))
+returns c = follow _ _ _ (follow _ _ _ (c .before .before .before .before .before .before .before .before .before .before .before .front .ensures) (c .before .before .before .before .before .before .before .places .ensures)) (rw (c .before .before .before .of .ensures) at (c .before .before .leader-line .ensures))
 
 pub state-spec : {M : Type 1} → statement M
 state-spec =
     tie.close
-    (tie.spec front-requires places-requires of-requires lead-requires same-length returns)
+    (tie.spec front-requires places-requires of-requires leader-line-requires same-length returns)

@@ -1,8 +1,8 @@
 -- `leader_name` meets its contract.
-use Rattle.lines.specs.Show.{leadText}
+use Rattle.sheet.specs.Sheet.{leaderName}
 use borrow.Author.Needs.{needs}
-use Rattle.lines.proofs.show.leader_name.Statement.{statement}
-use Rattle.lines.proofs.show.leader_name.Tie as tie
+use Rattle.sheet.proofs.leader_name.Statement.{statement}
+use Rattle.sheet.proofs.leader_name.Tie as tie
 
 enum-told : tie.Need-enum-told
 enum-told c = search needs
@@ -32,21 +32,21 @@ same-length : tie.Need-same-length
 same-length c = search needs
 
 returns : tie.Need-returns
-unfolding leadText
+unfolding leaderName
 returns c = rw (c .before .before .before .before .before .enum-told .given .1) (c .before .before .word .ensures)
 
 same-length-2 : tie.Need-same-length-2
 same-length-2 c = search needs
 
 returns-2 : tie.Need-returns-2
-unfolding leadText
+unfolding leaderName
 returns-2 c = rw (c .before .before .before .before .before .enum-told2 .given .1) (c .before .before .word2 .ensures)
 
 same-length-3 : tie.Need-same-length-3
 same-length-3 c = search needs
 
 returns-3 : tie.Need-returns-3
-unfolding leadText
+unfolding leaderName
 returns-3 c = rw (c .before .before .before .before .before .leader .given .1) (c .before .before .place .ensures)
 
 pub leader-name-spec : {M : Type 1} → statement M

@@ -1,0 +1,2 @@
+pub mod Demo
+pub mod DemoLaws
