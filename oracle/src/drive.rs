@@ -23,11 +23,9 @@ pub fn run(input: impl Read, out: &mut impl Write, form: Form) -> Result<()> {
         number += 1;
         let (place, records) = match command {
             b'M' => case(&mut input).ok_or_else(|| bad(number))?,
-            b'R' => whole(&mut input).ok_or_else(|| bad(number))?,
             b'A' => all(&mut input).ok_or_else(|| bad(number))?,
             b'L' => {
                 let (place, records) = whole(&mut input).ok_or_else(|| bad(number))?;
-                lined(place).ok_or_else(|| bad(number))?;
                 write(out, form.line(), place, &records)?;
                 continue;
             }
@@ -63,11 +61,6 @@ impl Form {
             _ => out.write_all(&[name, b": "].concat()),
         }
     }
-}
-
-/// Only EUC-KR and Big5 have lines.
-fn lined(place: u8) -> Option<()> {
-    matches!(place, 2 | 3).then_some(())
 }
 
 fn name<R: Read>(input: &mut Input<R>) -> Option<Vec<u8>> {

@@ -40,6 +40,18 @@ fn main() {
     }
 }
 
+const MODES: &str = "the modes, which README.md explains:
+  replay [--cases]
+  count
+  drive [--text | --digest]
+  leaves
+  digest
+  gen tables NAME [SEED] | tables standard INDEX_DIR | streams KIND SEED COUNT
+    | drive PLACE KIND SEED COUNT | named | text NAME SEED LENGTH | malformed | leaves SEED COUNT
+  patch CHANGE..
+  bench count_non_ascii | scan | contains | place K CHUNK [TABLES] | all BITS CHUNK [TABLES]
+  selftest INDEX_DIR";
+
 fn run(args: &[&str], input: impl Read, out: &mut impl Write) -> std::io::Result<()> {
     match args {
         ["replay"] => replay::run(input, out),
@@ -60,7 +72,7 @@ fn run(args: &[&str], input: impl Read, out: &mut impl Write) -> std::io::Result
             writeln!(out, "{}", line.ok_or(Error::other("bench: not known"))?)
         }
         ["selftest", folder] => selftest::run(folder, out),
-        _ => Err(Error::other("modes: replay, drive, leaves, digest, gen, patch, bench, selftest")),
+        _ => Err(Error::other(MODES)),
     }
 }
 

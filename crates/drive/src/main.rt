@@ -1,388 +1,303 @@
 // Drives one machine alone and prints a digest of its records, or its last record in words: what `oracle drive --digest`
 // prints for the same input (oracle/README.md has the format).
-mod input;
+mod lent;
 mod place;
 mod record;
-mod sheet;
-mod tables;
 
-ghost use mathlib.Core.Path.{_≡_};
-ghost use Prim.Native.Nat.{_+_, _*_, _<_, _≤_};
-ghost use lib.ListN.{length};
-ghost use Rattle.lengths.specs.Lengths.{classCount, markCount, pairCount, big5Count, eucKrCount, jisCount, extraCount};
 use digest::Digest;
-use lengths::BIG5;
 use lengths::CLASSES;
-use lengths::EUC_KR;
+use lengths::EXTRAS;
 use lengths::MARKS;
 use lengths::PAIRS;
 use lengths::WEIGHTS;
+use lent::Classes;
+use lent::INDEXES;
+use lent::Marks;
+use lent::Pairs;
 use libc::STDIN_FILENO;
 use libc::STDOUT_FILENO;
-use place::Place;
-use tables::INDEXES;
-use tables::SCORES;
+use lines::show;
+use places::place::Place;
+use reader::command;
+use reader::command::Command;
+use reader::number;
 
-// Every two-byte stream from the record, closed.
-fn all_pairs(
+// A stream byte by byte: the digest with the record after each, and after the close if there is one.
+fn each(
+    from: Digest,
     start: Place,
+    part: &[u8],
+    last: bool,
     classes: &[u8],
     marks: &[u8],
-    scores: &[i16],
-    weights: &[i32],
+    pairs: &[i16],
     index: &[u32],
+    extras: &[i16],
+    weights: &[i32],
 ) -> Digest {
-    let mut d = Digest::fresh();
-    let mut stream: usize = 0;
-    while stream < 65536 {
-        let bytes = [(stream / 256) as u8, (stream % 256) as u8];
-        let first = start.fed(&bytes[..1], classes, marks, scores, weights, index);
-        let second = first.fed(&bytes[1..], classes, marks, scores, weights, index);
-        let closed = second.closed(classes, marks, scores, weights);
-        d = record::add(record::add(record::add(d, first), second), closed);
-        stream += 1;
-    }
-    d
-}
-
-// One stream in one call: the place at its end.
-fn whole_stream(
-    start: Place,
-    bytes: &[u8],
-    close: bool,
-    classes: &[u8],
-    marks: &[u8],
-    scores: &[i16],
-    weights: &[i32],
-    index: &[u32],
-) -> Place {
-    let p = start.fed(bytes, classes, marks, scores, weights, index);
-    if close {
-        return p.closed(classes, marks, scores, weights);
-    }
-    p
-}
-
-// One stream byte by byte: the record after each, and after the close if there is one.
-fn one_stream(
-    start: Place,
-    bytes: &[u8],
-    close: bool,
-    classes: &[u8],
-    marks: &[u8],
-    scores: &[i16],
-    weights: &[i32],
-    index: &[u32],
-) -> Digest {
-    let mut d = Digest::fresh();
+    let mut d = from;
     let mut p = start;
     let mut i = 0;
-    while i < bytes.len() {
-        p = p.fed(&bytes[i..i + 1], classes, marks, scores, weights, index);
+    while i < part.len() {
+        let one = &part[i..i + 1];
+        p = place::fed(p, one, false, classes, marks, pairs, index, extras, weights);
         d = record::add(d, p);
         i += 1;
     }
-    if close {
-        return record::add(d, p.closed(classes, marks, scores, weights));
+    if last {
+        p = place::fed(p, part, true, classes, marks, pairs, index, extras, weights);
+        return record::add(d, p);
     }
     d
 }
 
-// What a stream's end prints: its line, or its digest.
-fn show(command: usize, p: Place) {
-    if command == 0x4C {
-        sheet::print(p);
-        return;
-    }
-    record::add(Digest::fresh(), p).print();
+fn low(n: usize) -> u8 {
+    (n % 256) as u8
 }
 
-// A stream and what its command prints of it.
-fn run_stream(
-    start: Place,
-    command: usize,
-    part: &[u8],
-    close: bool,
+// Every two-byte stream, closed.
+fn all_pairs(
+    p: Place,
     classes: &[u8],
     marks: &[u8],
-    scores: &[i16],
-    weights: &[i32],
+    pairs: &[i16],
     index: &[u32],
-) {
-    if command == 0x4D {
-        one_stream(start, part, close, classes, marks, scores, weights, index).print();
-        return;
-    }
-    let end = whole_stream(start, part, close, classes, marks, scores, weights, index);
-    show(command, end);
-}
-
-// A stream of so many bytes, read from standard input into the buffer.
-fn read_into(
-    buffer: &mut [u8],
-    len: usize,
-    start: Place,
-    command: usize,
-    close: bool,
-    classes: &[u8],
-    marks: &[u8],
-    scores: &[i16],
+    extras: &[i16],
     weights: &[i32],
-    index: &[u32],
-) -> bool
-    requires { ⌜ len ≤ length (now buffer) ⌝ }
-{
-    if input::part(buffer, len) < len {
-        return false;
-    }
-    let part = &buffer[0..len];
-    run_stream(
-        start,
-        command,
-        part,
-        close,
-        classes,
-        marks,
-        scores,
-        weights,
-        index,
-    );
-    true
-}
-
-// Filling a small buffer takes little time, and most streams are short.
-fn read_stream(
-    start: Place,
-    command: usize,
-    classes: &[u8],
-    marks: &[u8],
-    scores: &[i16],
-    weights: &[i32],
-    index: &[u32],
-) -> bool {
-    let close = input::byte() == 1;
-    let len = input::length();
-    if 65536 < len {
-        return false;
-    }
-    if len < 256 {
-        let mut short = [0u8; 256];
-        return read_into(
-            &mut short,
-            len,
-            start,
-            command,
-            close,
+) -> Digest {
+    let mut d = Digest::fresh();
+    let mut n: usize = 0;
+    while n < 65536 {
+        let two = [low(n / 256), low(n)];
+        d = each(
+            d,
+            p,
+            &two,
+            true,
             classes,
             marks,
-            scores,
-            weights,
+            pairs,
             index,
-        );
-    }
-    let mut long = [0u8; 65536];
-    read_into(
-        &mut long,
-        len,
-        start,
-        command,
-        close,
-        classes,
-        marks,
-        scores,
-        weights,
-        index,
-    )
-}
-
-// One case: its record, and what the command adds.
-fn case(
-    command: usize,
-    place: u8,
-    classes: &[u8],
-    marks: &[u8],
-    scores: &[i16],
-    weights: &[i32],
-    index: &[u32],
-) -> bool {
-    let mut bytes = [0u8; 40];
-    if io::read_full(STDIN_FILENO, &mut bytes) != 40 {
-        return false;
-    }
-    let start = record::place_of(place, &bytes);
-    if command == 0x41 {
-        all_pairs(start, classes, marks, scores, weights, index).print();
-        return true;
-    }
-    read_stream(start, command, classes, marks, scores, weights, index)
-}
-
-// A case of the k-th single-byte place, whose tables are the k-th of each array.
-fn single_case(
-    command: usize,
-    k: usize,
-    classes: &[u8],
-    marks: &[u8],
-    scores: &[i16],
-    weights: &[i32],
-    indexes: &[u32],
-) -> bool
-    requires { ⌜ k < 4 ⌝ }
-    requires { ⌜ (length (now classes) ≡ 4 * classCount) × ((length (now marks) ≡ 4 * markCount) × (length (now scores) ≡ 4 * pairCount + extraCount)) ⌝ }
-{
-    let c = &classes[CLASSES * k..CLASSES * k + CLASSES];
-    let m = &marks[MARKS * k..MARKS * k + MARKS];
-    let s = &scores[PAIRS * k..PAIRS * k + PAIRS];
-    case(command, (k + 4) as u8, c, m, s, weights, indexes)
-}
-
-// A case of a place that decodes, over its own index.
-fn decoder_case(
-    command: usize,
-    place: usize,
-    classes: &[u8],
-    marks: &[u8],
-    scores: &[i16],
-    weights: &[i32],
-    indexes: &[u32],
-) -> bool
-    requires { ⌜ (length (now scores) ≡ 4 * pairCount + extraCount) × (length (now indexes) ≡ big5Count + eucKrCount + jisCount) ⌝ }
-{
-    if place == 2 {
-        let extras = &scores[4 * PAIRS..];
-        return case(
-            command,
-            2,
-            classes,
-            marks,
             extras,
             weights,
-            &indexes[BIG5..BIG5 + EUC_KR],
         );
+        n += 1;
     }
-    if place == 3 {
-        return case(
-            command,
-            3,
+    d
+}
+
+fn line(p: Place) {
+    let mut text = [0u8; 192];
+    let end = show::place(&mut text, 0, p);
+    io::write_all(STDOUT_FILENO, &text[..end]);
+}
+
+// A case from its starting record over all its bytes, and what its command prints.
+fn drive(
+    command: u8,
+    p: Place,
+    all: &[u8],
+    last: bool,
+    classes: &[u8],
+    marks: &[u8],
+    pairs: &[i16],
+    index: &[u32],
+    extras: &[i16],
+    weights: &[i32],
+) {
+    let d = Digest::fresh();
+    if command == b'A' {
+        all_pairs(p, classes, marks, pairs, index, extras, weights).print();
+        return;
+    }
+    if command == b'M' {
+        each(
+            d,
+            p,
+            all,
+            last,
             classes,
             marks,
-            scores,
+            pairs,
+            index,
+            extras,
             weights,
-            &indexes[0..BIG5],
-        );
+        ).print();
+        return;
     }
-    let number = if place == 0 { 0 } else { 1 };
-    case(
-        command,
-        number,
-        classes,
-        marks,
-        scores,
-        weights,
-        &indexes[BIG5 + EUC_KR..],
-    )
+    let at = place::fed(p, all, false, classes, marks, pairs, index, extras, weights);
+    if last {
+        let end = place::fed(at, all, true, classes, marks, pairs, index, extras, weights);
+        line(end);
+        return;
+    }
+    line(at);
+}
+
+// The bytes of a case: whether they are the last of their stream, and how many they are. `A` has none.
+fn bytes_of(command: u8, buffer: &mut [u8]) -> Command {
+    if command == b'A' {
+        return Command::Feed(true, 0);
+    }
+    let mut head = [0u8; 5];
+    if io::read_full(STDIN_FILENO, &mut head) != 5 {
+        return Command::Bad;
+    }
+    let length = number::four(&head, 1) as usize;
+    if buffer.len() < length {
+        return Command::Bad;
+    }
+    if io::read_full(STDIN_FILENO, &mut buffer[0..length]) != length {
+        return Command::Bad;
+    }
+    Command::Feed(head[0] == 1, length)
+}
+
+// The next byte of the input; answers how many there were.
+fn next(to: &mut [u8; 1]) -> usize {
+    io::read_full(STDIN_FILENO, to)
 }
 
 // Prints a name, which a line follows.
-fn name() -> bool {
-    let len = input::byte();
-    let mut bytes = [0u8; 256];
-    if 255 < len {
+fn name(buffer: &mut [u8]) -> bool {
+    let mut size = [0u8; 1];
+    if next(&mut size) != 1 {
         return false;
     }
-    if input::part(&mut bytes, len) < len {
+    let length = record::wide(size[0]);
+    if buffer.len() < length {
         return false;
     }
-    io::write_all(STDOUT_FILENO, &bytes[0..len]);
+    if io::read_full(STDIN_FILENO, &mut buffer[0..length]) != length {
+        return false;
+    }
+    io::write_all(STDOUT_FILENO, &buffer[0..length]);
     io::write_all(STDOUT_FILENO, b": ");
     true
 }
 
-fn is_case(command: usize) -> bool {
+fn is_case(command: u8) -> bool {
     match command {
-        0x41 | 0x4C | 0x4D | 0x52 => true,
+        b'A' | b'L' | b'M' => true,
         _ => false,
     }
 }
 
-// What follows a command. Answers whether it was well formed.
-fn turn(
-    command: usize,
-    classes: &[u8],
-    marks: &[u8],
-    scores: &[i16],
-    weights: &[i32],
-    indexes: &[u32],
-) -> bool
-    requires { ⌜ (length (now classes) ≡ 4 * classCount) × ((length (now marks) ≡ 4 * markCount) × ((length (now scores) ≡ 4 * pairCount + extraCount) × (length (now indexes) ≡ big5Count + eucKrCount + jisCount))) ⌝ }
-{
-    if command == 0x4E {
-        return name();
+// What follows a command: a name, or a case over the tables of its place. Answers whether it was well formed.
+fn case(
+    command: u8,
+    buffer: &mut [u8],
+    classes: &Classes,
+    marks: &Marks,
+    pairs: &Pairs,
+    indexes: &[u32; INDEXES],
+    extras: &[i16; EXTRAS],
+    weights: &[i32; WEIGHTS],
+) -> bool {
+    if command == b'N' {
+        return name(buffer);
     }
     if !is_case(command) {
         return false;
     }
-    let place = input::byte();
-    if command == 0x4C {
-        if !sheet::head(place) {
-            return false;
-        }
+    let mut head = [0u8; 41];
+    if io::read_full(STDIN_FILENO, &mut head) != 41 {
+        return false;
     }
-    if place < 4 {
-        return decoder_case(command, place, classes, marks, scores, weights, indexes);
+    let Command::Feed(last, length) = bytes_of(command, buffer) else {
+        return false;
+    };
+    if buffer.len() < length {
+        return false;
     }
+    let place = record::wide(head[0]);
     if 7 < place {
         return false;
     }
-    single_case(command, place - 4, classes, marks, scores, weights, indexes)
+    let p = record::start(&head);
+    let part = &buffer[0..length];
+    let k = lent::single_of(place);
+    let all = &indexes[..];
+    let own = lent::index_of(place);
+    let from = own.0;
+    let end = own.1;
+    let index = &all[from..end];
+    drive(
+        command,
+        p,
+        part,
+        last,
+        &classes[k],
+        &marks[k],
+        &pairs[k],
+        index,
+        extras,
+        weights,
+    );
+    true
 }
 
-// The cases until the end of the input or new lent data; answers whether that follows.
-fn cases(classes: &[u8], marks: &[u8], scores: &[i16], weights: &[i32], indexes: &[u32]) -> bool
-    requires { ⌜ (length (now classes) ≡ 4 * classCount) × ((length (now marks) ≡ 4 * markCount) × ((length (now scores) ≡ 4 * pairCount + extraCount) × (length (now indexes) ≡ big5Count + eucKrCount + jisCount))) ⌝ }
-{
-    let mut count: usize = 0;
-    while count < 10000000 {
-        let command = input::byte();
-        if command == 256 {
-            return false;
-        }
-        if command == 0x54 {
-            return true;
-        }
-        if !turn(command, classes, marks, scores, weights, indexes) {
-            io::write_all(STDOUT_FILENO, b"bad input\n");
-            return false;
-        }
-        count += 1;
-    }
-    false
+// The same, with the buffer as an array.
+fn turn(
+    command: u8,
+    buffer: &mut [u8; command::CHUNK],
+    classes: &Classes,
+    marks: &Marks,
+    pairs: &Pairs,
+    indexes: &[u32; INDEXES],
+    extras: &[i16; EXTRAS],
+    weights: &[i32; WEIGHTS],
+) -> bool {
+    case(
+        command,
+        buffer,
+        classes,
+        marks,
+        pairs,
+        indexes,
+        extras,
+        weights,
+    )
 }
 
-// Lent data and the cases over it. Answers whether more lent data follows.
-fn block() -> bool {
-    let mut classes = [0u8; 4 * CLASSES];
-    let mut marks = [0u8; 4 * MARKS];
-    let mut scores = [0i16; SCORES];
-    let mut weights = [0i32; WEIGHTS];
-    let mut indexes = [0u32; INDEXES];
-    if !tables::read_all(
-        &mut classes,
-        &mut marks,
-        &mut scores,
-        &mut weights,
-        &mut indexes,
-    ) {
-        io::write_all(STDOUT_FILENO, b"bad input\n");
-        return false;
-    }
-    cases(&classes, &marks, &scores, &weights, &indexes)
-}
-
+// Lent data comes first, without its letter.
 fn main() {
+    let mut buffer = [0u8; command::CHUNK];
+    let mut classes = [[0u8; CLASSES]; 4];
+    let mut marks = [[0u8; MARKS]; 4];
+    let mut pairs = [[0i16; PAIRS]; 4];
+    let mut indexes = [0u32; INDEXES];
+    let mut extras = [0i16; EXTRAS];
+    let mut weights = [0i32; WEIGHTS];
+    let mut command = [b'T'; 1];
     let mut count: usize = 0;
-    while count < 1000 {
-        if !block() {
+    while count < 10_000_000 {
+        let whole = if command[0] == b'T' {
+            lent::lend(
+                &mut classes,
+                &mut marks,
+                &mut pairs,
+                &mut indexes,
+                &mut extras,
+                &mut weights,
+            )
+        } else {
+            turn(
+                command[0],
+                &mut buffer,
+                &classes,
+                &marks,
+                &pairs,
+                &indexes,
+                &extras,
+                &weights,
+            )
+        };
+        if !whole {
+            io::write_all(STDOUT_FILENO, b"bad input\n");
+            return;
+        }
+        if next(&mut command) != 1 {
             return;
         }
         count += 1;

@@ -1,6 +1,4 @@
 // A place's record of 40 bytes, as oracle/README.md lays it out: read from a case, and added to a digest.
-use crate::place::Machine;
-use crate::place::Place;
 use arabic_french::ArabicFrench;
 use arabic_french::LatinCaseState;
 use big5::Big5;
@@ -12,55 +10,26 @@ use euckr::LatinKorean;
 use iso2022jp::DecoderState;
 use iso2022jp::Iso2022Jp;
 use iso2022jp::OutputState;
+use kinds::machine::Machine;
 use logical::Logical;
 use pairs::Held;
+use places::place::Place;
+use places::place::Score;
 use reader::number;
 use utf8::Utf8;
 use visual::Visual;
 
-// The fields that are laid out alike for every place.
-struct Fields {
-    a: u8,
-    b: u8,
-    c: u8,
-    d: u8,
-    e: u8,
-    x: u64,
-    y: u64,
-    z: u64,
-}
-
-fn flag(b: bool) -> u8 {
-    if b { 1 } else { 0 }
-}
-
-fn case_number(c: LatinCaseState) -> u8 {
-    match c {
-        LatinCaseState::Space => 0,
-        LatinCaseState::Upper => 1,
-        LatinCaseState::Lower => 2,
-        LatinCaseState::AllCaps => 3,
-    }
+// ---- from a case
+pub(crate) fn wide(b: u8) -> usize {
+    b as usize
 }
 
 fn case_of(n: u8) -> LatinCaseState {
     match n {
+        0 => LatinCaseState::Space,
         1 => LatinCaseState::Upper,
         2 => LatinCaseState::Lower,
-        3 => LatinCaseState::AllCaps,
-        _ => LatinCaseState::Space,
-    }
-}
-
-fn state_number(s: DecoderState) -> u8 {
-    match s {
-        DecoderState::Ascii => 0,
-        DecoderState::Roman => 1,
-        DecoderState::Katakana => 2,
-        DecoderState::LeadByte => 3,
-        DecoderState::TrailByte => 4,
-        DecoderState::EscapeStart => 5,
-        DecoderState::Escape => 6,
+        _ => LatinCaseState::AllCaps,
     }
 }
 
@@ -76,30 +45,12 @@ fn state_of(n: u8) -> DecoderState {
     }
 }
 
-fn out_number(s: OutputState) -> u8 {
-    match s {
-        OutputState::Ascii => 0,
-        OutputState::Roman => 1,
-        OutputState::Katakana => 2,
-        OutputState::LeadByte => 3,
-    }
-}
-
 fn out_of(n: u8) -> OutputState {
     match n {
         0 => OutputState::Ascii,
         1 => OutputState::Roman,
         2 => OutputState::Katakana,
         _ => OutputState::LeadByte,
-    }
-}
-
-fn korean_number(k: LatinKorean) -> u8 {
-    match k {
-        LatinKorean::AsciiLetter => 0,
-        LatinKorean::Hangul => 1,
-        LatinKorean::Hanja => 2,
-        LatinKorean::Other => 3,
     }
 }
 
@@ -112,14 +63,6 @@ fn korean_of(n: u8) -> LatinKorean {
     }
 }
 
-fn cj_number(k: LatinCj) -> u8 {
-    match k {
-        LatinCj::AsciiLetter => 0,
-        LatinCj::Cj => 1,
-        LatinCj::Other => 2,
-    }
-}
-
 fn cj_of(n: u8) -> LatinCj {
     match n {
         0 => LatinCj::AsciiLetter,
@@ -128,10 +71,160 @@ fn cj_of(n: u8) -> LatinCj {
     }
 }
 
+fn held_of(e: u8, z: u64) -> Held {
+    if e == 1 {
+        return Held::Score(signed::of_bits64(z));
+    }
+    Held::Nothing
+}
+
+fn decoder_of(f: &[u8; 41], x: u64, z: u64) -> Machine {
+    match f[0] {
+        0 => Machine::Utf8(Utf8 {
+            need: f[2],
+            lo: f[3],
+            hi: f[4],
+        }),
+        1 => Machine::Iso2022Jp(Iso2022Jp {
+            state: state_of(f[2]),
+            out: out_of(f[3]),
+            lead: f[4],
+            output: f[5] == 1,
+        }),
+        2 => Machine::EucKr(EucKr {
+            lead: f[2],
+            prev_byte: f[3],
+            prev_was_euc_range: f[4] == 1,
+            prev: korean_of(f[5]),
+            current_word_len: x,
+            held: held_of(f[6], z),
+        }),
+        _ => Machine::Big5(Big5 {
+            lead: f[2],
+            prev: cj_of(f[5]),
+            prev_byte: f[3],
+            held: held_of(f[6], z),
+        }),
+    }
+}
+
+fn single_of(f: &[u8; 41], x: u64, y: u64, z: u64) -> Machine {
+    match f[0] {
+        4 => Machine::Caseless(Caseless {
+            prev: f[2],
+            prev_ascii: f[3] == 1,
+            current_word_len: x,
+            longest_word: y,
+        }),
+        5 => Machine::Logical(Logical {
+            prev: f[2],
+            prev_ascii: f[3] == 1,
+            plausible_punctuation: z,
+            current_word_len: x,
+            longest_word: y,
+        }),
+        6 => Machine::Visual(Visual {
+            prev: f[2],
+            prev_ascii: f[3] == 1,
+            prev_punctuation: f[4] == 1,
+            plausible_punctuation: z,
+            current_word_len: x,
+            longest_word: y,
+        }),
+        _ => Machine::ArabicFrench(ArabicFrench {
+            prev: f[2],
+            case_state: case_of(f[4]),
+            prev_ascii: f[3] == 1,
+            current_word_len: x,
+            longest_word: y,
+        }),
+    }
+}
+
+fn machine_of(f: &[u8; 41]) -> Machine {
+    let x = number::eight(f, 17);
+    let y = number::eight(f, 25);
+    let z = number::eight(f, 33);
+    if f[0] < 4 {
+        return decoder_of(f, x, z);
+    }
+    single_of(f, x, y, z)
+}
+
+fn score_of(f: &[u8; 41]) -> Score {
+    if f[1] == 0 {
+        return Score::None;
+    }
+    Score::Live(signed::of_bits64(number::eight(f, 9)))
+}
+
+// The place of a case, by its number and then its record.
+pub(crate) fn start(f: &[u8; 41]) -> Place {
+    Place {
+        machine: machine_of(f),
+        score: score_of(f),
+    }
+}
+
+// ---- to a digest
+// The fields a to e, x, y and z.
+struct Fields(u8, u8, u8, u8, u8, u64, u64, u64);
+
+fn flag(b: bool) -> u8 {
+    if b { 1 } else { 0 }
+}
+
+fn case_number(c: LatinCaseState) -> u8 {
+    match c {
+        LatinCaseState::Space => 0,
+        LatinCaseState::Upper => 1,
+        LatinCaseState::Lower => 2,
+        LatinCaseState::AllCaps => 3,
+    }
+}
+
+fn state_number(s: DecoderState) -> u8 {
+    match s {
+        DecoderState::Ascii => 0,
+        DecoderState::Roman => 1,
+        DecoderState::Katakana => 2,
+        DecoderState::LeadByte => 3,
+        DecoderState::TrailByte => 4,
+        DecoderState::EscapeStart => 5,
+        DecoderState::Escape => 6,
+    }
+}
+
+fn out_number(s: OutputState) -> u8 {
+    match s {
+        OutputState::Ascii => 0,
+        OutputState::Roman => 1,
+        OutputState::Katakana => 2,
+        OutputState::LeadByte => 3,
+    }
+}
+
+fn korean_number(k: LatinKorean) -> u8 {
+    match k {
+        LatinKorean::AsciiLetter => 0,
+        LatinKorean::Hangul => 1,
+        LatinKorean::Hanja => 2,
+        LatinKorean::Other => 3,
+    }
+}
+
+fn cj_number(k: LatinCj) -> u8 {
+    match k {
+        LatinCj::AsciiLetter => 0,
+        LatinCj::Cj => 1,
+        LatinCj::Other => 2,
+    }
+}
+
 fn is_held(h: Held) -> u8 {
     match h {
         Held::Nothing => 0,
-        Held::Score(s) => 1,
+        Held::Score(_) => 1,
     }
 }
 
@@ -142,132 +235,66 @@ fn held_bits(h: Held) -> u64 {
     }
 }
 
-fn held_of(f: Fields) -> Held {
-    if f.e == 1 {
-        return Held::Score(signed::of_bits64(f.z));
-    }
-    Held::Nothing
-}
-
-// ---- from a machine to the fields
-fn laid(a: u8, b: u8, c: u8, d: u8, e: u8, x: u64, y: u64, z: u64) -> Fields {
-    Fields {
-        a,
-        b,
-        c,
-        d,
-        e,
-        x,
-        y,
-        z,
-    }
-}
-
-fn iso2022jp_fields(m: Iso2022Jp) -> Fields {
+fn of_iso2022jp(m: Iso2022Jp) -> Fields {
     let state = m.state;
     let out = m.out;
-    laid(
-        state_number(state),
-        out_number(out),
-        m.lead,
-        flag(m.output),
-        0,
-        0,
-        0,
-        0,
-    )
+    let a = state_number(state);
+    Fields(a, out_number(out), m.lead, flag(m.output), 0, 0, 0, 0)
 }
 
-fn euckr_fields(m: EucKr) -> Fields {
+fn of_euckr(m: EucKr) -> Fields {
     let prev = m.prev;
     let held = m.held;
-    laid(
-        m.lead,
-        m.prev_byte,
-        flag(m.prev_was_euc_range),
-        korean_number(prev),
-        is_held(held),
-        m.current_word_len,
-        0,
-        held_bits(held),
-    )
+    let c = flag(m.prev_was_euc_range);
+    let d = korean_number(prev);
+    let x = m.current_word_len;
+    let e = is_held(held);
+    Fields(m.lead, m.prev_byte, c, d, e, x, 0, held_bits(held))
 }
 
-fn big5_fields(m: Big5) -> Fields {
+fn of_big5(m: Big5) -> Fields {
     let prev = m.prev;
     let held = m.held;
-    laid(
-        m.lead,
-        m.prev_byte,
-        0,
-        cj_number(prev),
-        is_held(held),
-        0,
-        0,
-        held_bits(held),
-    )
+    let d = cj_number(prev);
+    let e = is_held(held);
+    Fields(m.lead, m.prev_byte, 0, d, e, 0, 0, held_bits(held))
 }
 
-// A single-byte machine's: its previous class, whether that was ASCII, field c, its words, field z.
-fn single_fields(prev: u8, ascii: bool, c: u8, word: u64, longest: u64, z: u64) -> Fields {
-    laid(prev, flag(ascii), c, 0, 0, word, longest, z)
+fn of_caseless(m: Caseless) -> Fields {
+    let x = m.current_word_len;
+    Fields(m.prev, flag(m.prev_ascii), 0, 0, 0, x, m.longest_word, 0)
 }
 
-fn caseless_fields(m: Caseless) -> Fields {
-    single_fields(
-        m.prev,
-        m.prev_ascii,
-        0,
-        m.current_word_len,
-        m.longest_word,
-        0,
-    )
+fn of_logical(m: Logical) -> Fields {
+    let x = m.current_word_len;
+    let z = m.plausible_punctuation;
+    Fields(m.prev, flag(m.prev_ascii), 0, 0, 0, x, m.longest_word, z)
 }
 
-fn logical_fields(m: Logical) -> Fields {
-    single_fields(
-        m.prev,
-        m.prev_ascii,
-        0,
-        m.current_word_len,
-        m.longest_word,
-        m.plausible_punctuation,
-    )
+fn of_visual(m: Visual) -> Fields {
+    let c = flag(m.prev_punctuation);
+    let x = m.current_word_len;
+    let z = m.plausible_punctuation;
+    Fields(m.prev, flag(m.prev_ascii), c, 0, 0, x, m.longest_word, z)
 }
 
-fn visual_fields(m: Visual) -> Fields {
-    single_fields(
-        m.prev,
-        m.prev_ascii,
-        flag(m.prev_punctuation),
-        m.current_word_len,
-        m.longest_word,
-        m.plausible_punctuation,
-    )
-}
-
-fn arabic_french_fields(m: ArabicFrench) -> Fields {
+fn of_arabic_french(m: ArabicFrench) -> Fields {
     let case_state = m.case_state;
-    single_fields(
-        m.prev,
-        m.prev_ascii,
-        case_number(case_state),
-        m.current_word_len,
-        m.longest_word,
-        0,
-    )
+    let c = case_number(case_state);
+    let x = m.current_word_len;
+    Fields(m.prev, flag(m.prev_ascii), c, 0, 0, x, m.longest_word, 0)
 }
 
-fn fields_of(m: Machine) -> Fields {
-    match m {
-        Machine::Utf8(m) => laid(m.need, m.lo, m.hi, 0, 0, 0, 0, 0),
-        Machine::Iso2022Jp(m) => iso2022jp_fields(m),
-        Machine::EucKr(m) => euckr_fields(m),
-        Machine::Big5(m) => big5_fields(m),
-        Machine::Caseless(m) => caseless_fields(m),
-        Machine::Logical(m) => logical_fields(m),
-        Machine::Visual(m) => visual_fields(m),
-        Machine::ArabicFrench(m) => arabic_french_fields(m),
+fn fields_of(machine: Machine) -> Fields {
+    match machine {
+        Machine::Utf8(m) => Fields(m.need, m.lo, m.hi, 0, 0, 0, 0, 0),
+        Machine::Iso2022Jp(m) => of_iso2022jp(m),
+        Machine::EucKr(m) => of_euckr(m),
+        Machine::Big5(m) => of_big5(m),
+        Machine::Caseless(m) => of_caseless(m),
+        Machine::Logical(m) => of_logical(m),
+        Machine::Visual(m) => of_visual(m),
+        Machine::ArabicFrench(m) => of_arabic_french(m),
     }
 }
 
@@ -291,110 +318,15 @@ fn with_number(d: Digest, n: u64) -> Digest {
     )
 }
 
-fn live(d: Digest, machine: Machine, score: i64) -> Digest {
-    let f = fields_of(machine);
-    let named = d.with(&[1, f.a, f.b, f.c, f.d, f.e, 0, 0]);
-    let scored = with_number(named, signed::bits(score));
-    with_number(with_number(with_number(scored, f.x), f.y), f.z)
-}
-
 // The digest with a record's 40 bytes.
 pub(crate) fn add(d: Digest, p: Place) -> Digest {
-    match p {
-        Place::Live(machine, score) => live(d, machine, score),
-        Place::None => d.with(&[0u8; 40]),
-        Place::Unfit => d.with(&[0xFFu8; 40]),
-    }
-}
-
-// ---- from the fields to a machine
-fn decoder_of(place: u8, f: Fields) -> Machine {
-    match place {
-        0 => Machine::Utf8(Utf8 {
-            need: f.a,
-            lo: f.b,
-            hi: f.c,
-        }),
-        1 => Machine::Iso2022Jp(Iso2022Jp {
-            state: state_of(f.a),
-            out: out_of(f.b),
-            lead: f.c,
-            output: f.d == 1,
-        }),
-        2 => Machine::EucKr(EucKr {
-            lead: f.a,
-            prev_byte: f.b,
-            prev_was_euc_range: f.c == 1,
-            prev: korean_of(f.d),
-            current_word_len: f.x,
-            held: held_of(f),
-        }),
-        _ => Machine::Big5(Big5 {
-            lead: f.a,
-            prev: cj_of(f.d),
-            prev_byte: f.b,
-            held: held_of(f),
-        }),
-    }
-}
-
-fn single_of(place: u8, f: Fields) -> Machine {
-    match place {
-        4 => Machine::Caseless(Caseless {
-            prev: f.a,
-            prev_ascii: f.b == 1,
-            current_word_len: f.x,
-            longest_word: f.y,
-        }),
-        5 => Machine::Logical(Logical {
-            prev: f.a,
-            prev_ascii: f.b == 1,
-            plausible_punctuation: f.z,
-            current_word_len: f.x,
-            longest_word: f.y,
-        }),
-        6 => Machine::Visual(Visual {
-            prev: f.a,
-            prev_ascii: f.b == 1,
-            prev_punctuation: f.c == 1,
-            plausible_punctuation: f.z,
-            current_word_len: f.x,
-            longest_word: f.y,
-        }),
-        _ => Machine::ArabicFrench(ArabicFrench {
-            prev: f.a,
-            case_state: case_of(f.c),
-            prev_ascii: f.b == 1,
-            current_word_len: f.x,
-            longest_word: f.y,
-        }),
-    }
-}
-
-fn machine_of(place: u8, f: Fields) -> Machine {
-    if place < 4 {
-        return decoder_of(place, f);
-    }
-    single_of(place, f)
-}
-
-// The place that a case's 40 bytes stand for.
-pub(crate) fn place_of(place: u8, bytes: &[u8; 40]) -> Place {
-    if bytes[0] == 0 {
-        return Place::None;
-    }
-    let f = laid(
-        bytes[1],
-        bytes[2],
-        bytes[3],
-        bytes[4],
-        bytes[5],
-        number::eight(bytes, 16),
-        number::eight(bytes, 24),
-        number::eight(bytes, 32),
-    );
-    Place::Live(
-        machine_of(place, f),
-        signed::of_bits64(number::eight(bytes, 8)),
-    )
+    let machine = p.machine;
+    let score = p.score;
+    let Score::Live(n) = score else {
+        return d.with(&[0u8; 40]);
+    };
+    let f = fields_of(machine);
+    let small = d.with(&[1, f.0, f.1, f.2, f.3, f.4, 0, 0]);
+    let scored = with_number(small, signed::bits(n));
+    with_number(with_number(with_number(scored, f.5), f.6), f.7)
 }

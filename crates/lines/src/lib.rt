@@ -1,4 +1,4 @@
-// The replay format's lines: what a reply and a state are printed as.
+// The replay format's lines: what a reply, a place and a state are printed as.
 mod fields;
 pub mod show;
 mod terms;

@@ -1,4 +1,4 @@
-// Whole lines: a reply, and the ten of a state.
+// Whole lines: a reply, a place, and the ten of a state.
 ghost use mathlib.Core.Path.{_≡_};
 ghost use Rattle.context.specs.Context.{bytesOf};
 ghost use Rattle.lines.specs.Show.{savedText, replyText, frontText, recordText, scoredText, placeText, placesText, stateText};
@@ -89,7 +89,7 @@ fn scored(out: &mut [u8], at: usize, machine: Machine, score: Score) -> usize
     end_line(out, c)
 }
 
-fn place(out: &mut [u8], at: usize, place: Place) -> usize
+pub fn place(out: &mut [u8], at: usize, place: Place) -> usize
     ensures { λ r. ⌜ page (now (out .exit)) r ≡ onto (page (now (out .entry)) at) (placeText place) ⌝ }
 {
     let machine = place.machine;

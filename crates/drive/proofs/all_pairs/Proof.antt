@@ -5,10 +5,10 @@ use Rattle.drive.proofs.all_pairs.Statement.{statement}
 use Rattle.drive.proofs.all_pairs.Tie as tie
 
 abbrev Inv-loop : tie.InvT-loop
-Inv-loop start classes marks pairs weights jis d₀ stream₀ d stream = stream ≤ 65536
+Inv-loop p classes marks pairs index extras weights d₀ n₀ d n = n ≤ 65536
 
 abbrev μ-loop : tie.MeasureT-loop
-μ-loop start classes marks pairs weights jis d₀ stream₀ d stream = 65536 - stream
+μ-loop p classes marks pairs index extras weights d₀ n₀ d n = 65536 - n
 
 fresh-requires : tie.Need-fresh-requires Inv-loop μ-loop
 fresh-requires c κs = search needs
@@ -16,47 +16,20 @@ fresh-requires c κs = search needs
 loop-holds : tie.Need-loop-holds Inv-loop μ-loop
 loop-holds c = search needs
 
-cast-t15 : tie.Need-cast-t15 Inv-loop μ-loop
-cast-t15 c = search needs
+low-requires : tie.Need-low-requires Inv-loop μ-loop
+low-requires c κs = search needs
 
-cast-t17 : tie.Need-cast-t17 Inv-loop μ-loop
-cast-t17 c = search needs
+low-requires-2 : tie.Need-low-requires-2 Inv-loop μ-loop
+low-requires-2 c κs = search needs
 
-array-share-prefix-bytes : tie.Need-array-share-prefix-bytes Inv-loop μ-loop
-array-share-prefix-bytes c = search needs
+slice-aggregate-each : tie.Need-slice-aggregate-each Inv-loop μ-loop
+slice-aggregate-each c = search needs
 
-slice-aggregate-fed : tie.Need-slice-aggregate-fed Inv-loop μ-loop
-slice-aggregate-fed c = search needs
+each-requires : tie.Need-each-requires Inv-loop μ-loop
+each-requires c κs = search needs
 
-fed-requires : tie.Need-fed-requires Inv-loop μ-loop
-fed-requires c κs = search needs
-
-sub-fed : tie.Need-sub-fed Inv-loop μ-loop
-sub-fed c = search needs
-
-part-fed-start : tie.Need-part-fed-start Inv-loop μ-loop
-part-fed-start c = search needs
-
-part-fed-end : tie.Need-part-fed-end Inv-loop μ-loop
-part-fed-end c = search needs
-
-fed-requires-2 : tie.Need-fed-requires-2 Inv-loop μ-loop
-fed-requires-2 c κs = search needs
-
-closed-requires : tie.Need-closed-requires Inv-loop μ-loop
-closed-requires c κs = search needs
-
-add-requires : tie.Need-add-requires Inv-loop μ-loop
-add-requires c κs = search needs
-
-add-requires-2 : tie.Need-add-requires-2 Inv-loop μ-loop
-add-requires-2 c κs = search needs
-
-add-requires-3 : tie.Need-add-requires-3 Inv-loop μ-loop
-add-requires-3 c κs = search needs
-
-add-stream : tie.Need-add-stream Inv-loop μ-loop
-add-stream c = search needs
+add-n : tie.Need-add-n Inv-loop μ-loop
+add-n c = search needs
 
 loop-less : tie.Need-loop-less Inv-loop μ-loop
 loop-less c = search needs
@@ -75,20 +48,11 @@ all-pairs-spec =
     μ-loop
     fresh-requires
     loop-holds
-    cast-t15
-    cast-t17
-    array-share-prefix-bytes
-    slice-aggregate-fed
-    fed-requires
-    sub-fed
-    part-fed-start
-    part-fed-end
-    fed-requires-2
-    closed-requires
-    add-requires
-    add-requires-2
-    add-requires-3
-    add-stream
+    low-requires
+    low-requires-2
+    slice-aggregate-each
+    each-requires
+    add-n
     loop-less
     loop-again
     returns)
