@@ -1,14 +1,14 @@
 -- The test of the places decides, and places stay in order.
 use mathlib.Core.Path.{_≡_, refl, sym, ap, _∙_}
-use mathlib.Core.Bool.{Bool, true, false, cond, _&&_, _||_}
+use mathlib.Core.Bool.{Bool, true, false, cond, _&&_, _||_, and-false, and-true, and-comm}
 use mathlib.Core.List.{List}
 use Prim.Native.Nat.{ℕ, _+_, _*_, _<_, _≤_}
 use native.Mathlib.Nat.{mul-le-mul-left}
 use native.Mathlib.Omega.{arith}
-use lib.Dec.{eqb}
+use lib.Dec.{eqb, leb}
 use lib.IntN.{ℤ, pos, negsuc, natAbs}
 use lib.ListN.{length, getD, drop, length-drop}
-use borrow.Author.Tests.{eqb-true, eq-eqb, leb-true, le-leb, lt-leb}
+use borrow.Author.Tests.{eqb-true, eq-eqb, ne-eqb, leb-true, le-leb, lt-leb}
 use Rattle.laws.specs.Carried.{carried, Holds}
 use Rattle.laws.specs.Each.{eachB, each-true, true-each, each-turn, each-stop, each-done}
 use Rattle.laws.specs.Limit.{limit}
@@ -23,11 +23,12 @@ use Rattle.euckr.specs.EucKr as euckr
 use Rattle.euckr.specs.declared.EucKr.{EucKr as EucKrRecord}
 use Rattle.iso2022jp.specs.Iso2022Jp as iso2022jp
 use Rattle.utf8.specs.Utf8 as utf-8
+use Rattle.records.specs.Fresh.{freshB}
 use Rattle.records.specs.FreshLaws.{fresh-true, true-fresh}
 use Rattle.kinds.specs.KindLaws.{Alike, fresh-alike, alike-place, alike-reach, reach-open, run-alike, close-alike}
 use Rattle.kinds.specs.Kinds.{placeNumber, freshOf, stepOf, closeOf, WeighedIn}
 use Rattle.kinds.specs.KindsLaws.{utf-8-still, iso2022jp-still}
-use Rattle.kinds.specs.Sound.{takesSpace, reachOf, SoundFor}
+use Rattle.kinds.specs.Sound.{takesSpace, reachOf, SoundFor, soundB}
 use Rattle.kinds.specs.SoundLaws.{sound-true, true-sound, sound-more, fresh-sound, run-sound, close-sound}
 use Rattle.tables.specs.Own.{Own}
 use Rattle.kinds.specs.declared.machine.Machine.{Machine}
@@ -95,6 +96,48 @@ module _ (n : ℕ) (closed fed : Bool) where
   pub true-slate : (ps : List Place) → SlateFor n closed fed ps → slateB n closed fed ps ≡ true
   unfolding slateB
   true-slate ps o = rw (le-leb _ _ (o .most), true-each (placeB n closed fed) (PlaceFor n closed fed) true-place 0 ps (o .each))
+
+-- ---- each way through the test of one place
+fresh-then : (n reach : ℕ) (m : Machine) (b : Bool) → freshB m ≡ b → (soundB n reach m && b) ≡ b
+fresh-then n reach m true e =
+    let h : SoundFor n reach m = rw (sym (fresh-true m e)) at (fresh-sound n reach m) in
+    rw (true-sound n reach m h)
+fresh-then n reach m false e = and-false (soundB n reach m)
+
+module _ (n : ℕ) (closed fed : Bool) (k : ℕ) (p : Place) where
+  pub place-other : (placeNumber (p .machine) ≡ k → ⊥) → false ≡ placeB n closed fed k p
+  unfolding placeB
+  place-other h = rw (ne-eqb _ _ h)
+
+  module _ (e : placeNumber (p .machine) ≡ k) where
+    -- without a score: fresh, and nothing else is asked
+    pub place-none : p .score ≡ None → freshB (p .machine) ≡ placeB n closed fed k p
+    unfolding placeB scoredB unfedB zeroOrNoneB
+    place-none q = rw (eq-eqb _ _ e, q) (at fed (freshB (p .machine)) refl)
+      where
+        at : (f b : Bool) → freshB (p .machine) ≡ b → b ≡ (soundB n (reachOf (p .machine) n closed) (p .machine) && (b && (f || (b && true))))
+        at true true h = sym (fresh-then n (reachOf (p .machine) n closed) (p .machine) true h)
+        at false true h = sym (fresh-then n (reachOf (p .machine) n closed) (p .machine) true h)
+        at true false h = sym (and-false (soundB n (reachOf (p .machine) n closed) (p .machine)))
+        at false false h = sym (and-false (soundB n (reachOf (p .machine) n closed) (p .machine)))
+
+    module _ (s : ℤ) (q : p .score ≡ Live s) where
+      -- not fed: fresh with the score 0, and nothing else is asked
+      pub place-unfed : fed ≡ false → (r : Bool) → r ≡ (eqb (natAbs s) 0 && freshB (p .machine)) → r ≡ placeB n closed fed k p
+      unfolding placeB scoredB unfedB zeroOrNoneB
+      place-unfed u r i = rw (eq-eqb _ _ e, q, u) (i ∙ at (eqb (natAbs s) 0) (freshB (p .machine)) refl refl)
+        where
+          at : (z b : Bool) → eqb (natAbs s) 0 ≡ z → freshB (p .machine) ≡ b → (z && b) ≡ (soundB n (reachOf (p .machine) n closed) (p .machine) && (leb (natAbs s) (perByte * reachOf (p .machine) n closed) && (b && z)))
+          at true true g h =
+              let small : leb (natAbs s) (perByte * reachOf (p .machine) n closed) ≡ true = le-leb (natAbs s) (perByte * reachOf (p .machine) n closed) (rw (eqb-true (natAbs s) 0 g) (omega arith)) in
+              rw small (sym (fresh-then n (reachOf (p .machine) n closed) (p .machine) true h))
+          at true false g h = sym (rw (and-false, and-false))
+          at false true g h = sym (rw (and-false, and-false))
+          at false false g h = sym (rw (and-false, and-false))
+
+      pub place-fed : fed ≡ true → (r : Bool) → r ≡ (leb (natAbs s) (perByte * reachOf (p .machine) n closed) && soundB n (reachOf (p .machine) n closed) (p .machine)) → r ≡ placeB n closed fed k p
+      unfolding placeB scoredB
+      place-fed u r i = rw (eq-eqb _ _ e, q, u, and-true) (i ∙ and-comm (leb (natAbs s) (perByte * reachOf (p .machine) n closed)) (soundB n (reachOf (p .machine) n closed) (p .machine)))
 
 -- ---- for the loop of the test
 module _ (n : ℕ) (closed fed : Bool) (ps : List Place) where

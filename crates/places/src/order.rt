@@ -1,9 +1,9 @@
 // Which places a state in order can hold.
 ghost use mathlib.Core.Path.{_≡_};
-ghost use Prim.Native.Nat.{_+_, _≤_};
+ghost use Prim.Native.Nat.{_≤_};
 ghost use Rattle.laws.specs.Limit.{limit};
 ghost use Rattle.kinds.specs.Sound.{reachOf};
-ghost use Rattle.places.specs.Order.{scoredB, zeroOrNoneB, unfedB, placeB, slateB};
+ghost use Rattle.places.specs.Order.{placeB, slateB};
 use crate::place::Place;
 use crate::place::Score;
 use crate::place::Slate;
@@ -28,46 +28,25 @@ fn reach(machine: Machine, bytes: u64, closed: bool) -> u64
     bytes
 }
 
-// Fresh with no score, or with one that no bound of so many bytes excludes.
-fn is_scored(machine: Machine, score: Score, reach: u64) -> bool
-    requires { ⌜ reach ≤ limit + 1 ⌝ }
-    ensures { λ r. ⌜ r ≡ scoredB reach machine score ⌝ }
-{
-    match score {
-        Score::None => fresh::is_fresh(machine),
-        Score::Live(n) => signed::size(n) <= PER_BYTE * reach,
-    }
-}
-
-fn is_zero_or_none(score: Score) -> bool
-    ensures { λ r. ⌜ r ≡ zeroOrNoneB score ⌝ }
-{
-    match score {
-        Score::None => true,
-        Score::Live(n) => signed::size(n) == 0,
-    }
-}
-
-// Fresh, and its score 0 or none.
-fn is_unfed(place: Place) -> bool
-    ensures { λ r. ⌜ r ≡ unfedB place ⌝ }
-{
-    let machine = place.machine;
-    let score = place.score;
-    fresh::is_fresh(machine) && is_zero_or_none(score)
-}
-
-// Whether it can stand at place k: after so many bytes, the stream closed or not, fed already or not.
+// Whether it can stand at place k: after so many bytes, the stream closed or not, fed already or not. A fresh record is
+// one that no bound excludes.
 fn is_in_order(place: Place, k: usize, bytes: u64, closed: bool, fed: bool) -> bool
     requires { ⌜ bytes ≤ limit ⌝ }
     ensures { λ r. ⌜ r ≡ placeB bytes closed fed k place ⌝ }
 {
     let machine = place.machine;
     let score = place.score;
+    if machine.place_number() != k {
+        return false;
+    }
+    let Score::Live(n) = score else {
+        return fresh::is_fresh(machine);
+    };
+    if !fed {
+        return signed::size(n) == 0 && fresh::is_fresh(machine);
+    }
     let most = reach(machine, bytes, closed);
-    machine.place_number() == k
-        && (sound::is_sound(machine, bytes, most)
-            && (is_scored(machine, score, most) && (fed || is_unfed(place))))
+    signed::size(n) <= PER_BYTE * most && sound::is_sound(machine, bytes, most)
 }
 
 // Whether all places can stand so.
