@@ -12,8 +12,8 @@ use Rattle.laws.specs.Limit.{limit}
 use Rattle.laws.specs.Lists.{count, count-append}
 use Rattle.context.specs.Context.{bytesOf}
 use Rattle.context.specs.ContextLaws.{bytes-most}
-use Rattle.tables.specs.Tables.{Tables, sizedB}
-use Rattle.tables.specs.TablesLaws.{sized-true}
+use Rattle.tables.specs.Tables.{Tables, Sized, sizedB}
+use Rattle.tables.specs.TablesLaws.{sized-true, true-sized}
 use Rattle.places.specs.Order.{SlateFor}
 use Rattle.places.specs.Slate.{feedAll, slatedOf}
 use Rattle.places.specs.Kept.{AllKept, KeptIf}
@@ -22,12 +22,12 @@ use Rattle.places.specs.declared.place.Place.{Place}
 use Rattle.places.specs.declared.slate.Slated.{Slated}
 use Rattle.detector.specs.Feed.{verdictOf, refusalOf, placesBy, advanceOf, fed, accepted, feedBy, feedOf}
 use Rattle.detector.specs.Kept.{Passed, StaysIn}
-use Rattle.state.specs.State.{flagOf, triggered}
+use Rattle.state.specs.State.{flagOf, triggered, startOf}
 use Rattle.detector.specs.Front.{triggerOf, Reaches, none, some, reachesOf, bytesIn, counted, uncounted}
 use Rattle.detector.specs.Due.{dueAs, DueBy}
 use Rattle.detector.specs.FrontLaws.{triggerless-count}
 use Rattle.state.specs.Order.{InOrder, stateB}
-use Rattle.state.specs.OrderLaws.{order-true}
+use Rattle.state.specs.OrderLaws.{order-true, true-order, start-in-order}
 use Rattle.detector.specs.OrderLaws.{KeptBy, advance-in-order}
 use Rattle.state.specs.declared.reply.Reply.{Reply}
 use Rattle.state.specs.declared.reply.Reply.the-variants.{Closed, WrongLength, TooLong, NotInOrder}
@@ -108,6 +108,14 @@ module _ (t : Tables) (s : State) (xs : List ℕ) (last : Bool) where
   pub feed-accepted : Accept ≡ refusalOf t s xs → accepted (advanceOf t s xs last) ≡ feedOf t s xs last
   unfolding feedBy
   feed-accepted e = rw (sym e)
+
+-- what passes the tests is accepted
+pub fit-accepted : (t : Tables) (s : State) (xs : List ℕ) → Passed t s xs → (last : Bool) → feedOf t s xs last ≡ accepted (advanceOf t s xs last)
+fit-accepted t s xs passed last =
+    sym (feed-accepted t s xs last (judged-accept s (sizedB t) (length xs) (true-order s (passed .in-order)) (passed .going) (true-sized t (passed .sized)) (passed .short)))
+
+pub first-passed : (t : Tables) → Sized t → (bits : ℕ) (xs : List ℕ) → length xs ≤ limit → Passed t (startOf bits) xs
+first-passed t z bits xs h = record { sized = z; in-order = start-in-order bits; going = refl; short = omega (arith, h) }
 
 -- ---- the advance
 module _ (t : Tables) (s : State) (xs : List ℕ) (last : Bool) (passed : Passed t s xs) where

@@ -6,7 +6,7 @@ use mathlib.Core.Logic.{_⊎_}
 use Prim.Native.Nat.{ℕ, _≤_}
 use Rattle.laws.specs.Lists.{any, last}
 use Rattle.context.specs.Head.{isTrigger}
-use Rattle.detector.specs.Front.{bytesIn, reachesOf, frontOf}
+use Rattle.detector.specs.Front.{Reaches, none, some, bytesIn, reachesOf, frontOf}
 use Rattle.state.specs.declared.front.Front.{Front}
 
 -- whether a chunk is the last one says nothing of what reaches the places
@@ -17,6 +17,11 @@ frontThrough f (x ∷ xs) = frontThrough (frontOf f x false) xs
 unfoldable pub reachedBy : Front → List (List ℕ) → List ℕ
 reachedBy f [] = []
 reachedBy f (x ∷ xs) = bytesIn (reachesOf f x) ++ reachedBy (frontOf f x false) xs
+
+-- a chunk reaches the places
+abbrev pub Something : Reaches → Type 0
+Something none = ⊥
+Something (some before part) = Unit {0}
 
 -- it begins with a trigger
 abbrev pub Begins : List ℕ → Type 0

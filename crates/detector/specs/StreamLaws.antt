@@ -2,7 +2,7 @@
 use mathlib.Core.Path.{_≡_, refl, sym, ap, _∙_}
 use mathlib.Core.Bool.{Bool, true, false, _||_}
 use mathlib.Core.List.{List, [], _∷_, _++_, append-nil, append-assoc, flatten}
-use mathlib.Core.Logic.{inl, inr}
+use mathlib.Core.Logic.{_⊎_, inl, inr}
 use Prim.Native.Nat.{ℕ, _+_, _-_, _<_, _≤_}
 use native.Mathlib.Nat.{add-zero, zero-add}
 use native.Mathlib.Omega.{arith}
@@ -11,6 +11,7 @@ use lib.ListN.{length, getD, take, drop, length-take, length-append, take-append
 use lib.Seq.{drop-cons, drop-append-le}
 use borrow.Author.Tests.{lt-ltb, ltb-true, ltb-false, eq-eqb}
 use Rattle.laws.specs.Lists.{any, count, last, any-append, any-drop, count-append, last-append, last-length}
+use Rattle.laws.specs.Tests.{picked}
 use Rattle.octets.specs.Octets.{nonAscii}
 use Rattle.context.specs.Context.{contextOf}
 use Rattle.context.specs.ContextLaws.{bytes-context, push-context}
@@ -19,10 +20,10 @@ use Rattle.context.specs.HeadLaws.{FirstAt, scan-first}
 use Rattle.context.specs.declared.Scanned.{Scanned}
 use Rattle.context.specs.declared.Scanned.the-variants as scanned
 use Rattle.state.specs.State.{fresh, triggered}
-use Rattle.detector.specs.Front.{foundAs, triggerOf, reachesAt, reachesBy, reachesOf, bytesIn, contextBy, escBy, frontOf}
+use Rattle.detector.specs.Front.{foundAs, triggerOf, none, some, reachesAt, reachesBy, reachesOf, bytesIn, contextBy, escBy, frontOf}
 use Rattle.detector.specs.FrontLaws.{triggerless-count, no-trigger, non-ascii-at, at-least}
 use Rattle.state.specs.Order.{Saved}
-use Rattle.detector.specs.Stream.{frontThrough, reachedBy, FromHead, FromStream}
+use Rattle.detector.specs.Stream.{frontThrough, reachedBy, Something, Begins, FromHead, FromStream}
 use Rattle.state.specs.declared.front.Front.{Front}
 
 -- ---- after a trigger all chunks whole
@@ -31,11 +32,15 @@ grown true n k h = refl
 grown false n k h = lt-ltb 0 (n + k) (omega (arith, ltb-true 0 n h))
 
 module _ (f : Front) (x : List ℕ) (e : triggered f ≡ true) where
-  whole : bytesIn (reachesOf f x) ≡ x
+  -- and not as bytes of the context
+  pub whole-reach : reachesOf f x ≡ some [] x
   unfolding triggerOf reachesBy
-  whole = rw e
+  whole-reach = rw e
 
-  stays-triggered : triggered (frontOf f x false) ≡ true
+  whole : bytesIn (reachesOf f x) ≡ x
+  whole = ap bytesIn whole-reach
+
+  pub stays-triggered : triggered (frontOf f x false) ≡ true
   unfolding triggerOf escBy
   stays-triggered = rw e (grown (f .«esc_seen») (f .«non_ascii_seen») _ e)
 
@@ -51,7 +56,17 @@ pub record Untriggered (pre : List ℕ) (f : Front) : Type 0 where
   pub no-escape : f .«esc_seen» ≡ false
   pub none-seen : f .«non_ascii_seen» ≡ 0
 
-not-triggered : (pre : List ℕ) (f : Front) → Untriggered pre f → triggered f ≡ false
+-- a chunk that is saved
+pub record Saves (pre x : List ℕ) (f : Front) : Type 0 where
+  pub next : Untriggered (pre ++ x) (frontOf f x false)
+  pub nothing : reachesOf f x ≡ none
+
+-- one that has the trigger
+pub record Meets (x : List ℕ) (f : Front) : Type 0 where
+  pub now : triggered (frontOf f x false) ≡ true
+  pub reaches : Something (reachesOf f x)
+
+pub not-triggered : (pre : List ℕ) (f : Front) → Untriggered pre f → triggered f ≡ false
 not-triggered pre f q = rw (q .no-escape, q .none-seen)
 
 module _ (pre x : List ℕ) (f : Front) (q : Untriggered pre f) where
@@ -70,9 +85,12 @@ module _ (pre x : List ℕ) (f : Front) (q : Untriggered pre f) where
         none-seen = rw (g, add-zero) (q .none-seen);
       }
 
-  untriggered-none : scanOf x ≡ scanned.End → bytesIn (reachesOf f x) ≡ []
+  nothing-reaches : scanOf x ≡ scanned.End → reachesOf f x ≡ none
   unfolding reachesBy
-  untriggered-none e = rw (found scanned.End e)
+  nothing-reaches e = rw (found scanned.End e)
+
+  untriggered-none : scanOf x ≡ scanned.End → bytesIn (reachesOf f x) ≡ []
+  untriggered-none e = ap bytesIn (nothing-reaches e)
 
   saved : Saved (f .context)
   unfolding last any
@@ -166,7 +184,25 @@ module _ (pre x : List ℕ) (f : Front) (q : Untriggered pre f) where
       seen true n k h = refl
       seen false n k h = lt-ltb 0 (n + k) (omega arith)
 
+  -- so it is one or the other
+  some-at : (n : ℕ) → Something (reachesAt (f .context) x n)
+  unfolding reachesAt
+  some-at n = picked Something (ltb n 2) tt tt
+
+  pub chunk-way : Saves pre x f ⊎ Meets x f
+  unfolding reachesBy
+  chunk-way = at (scanOf x) refl
+    where
+      at : (r : Scanned) → scanOf x ≡ r → Saves pre x f ⊎ Meets x f
+      at (scanned.Escape n) e = inr (record { now = now-escape n e; reaches = rw (found (scanned.Escape n) e) (some-at n) })
+      at (scanned.NonAscii n) e = inr (record { now = now-non-ascii n e; reaches = rw (found (scanned.NonAscii n) e) (some-at n) })
+      at scanned.End e = inl (record { next = untriggered-next e; nothing = nothing-reaches e })
+
 -- ---- the whole stream
+pub fresh-quiet : Untriggered [] fresh
+unfolding last any
+fresh-quiet = record { triggerless = refl; context-is = refl; no-escape = refl; none-seen = refl }
+
 with-rest : (pre x : List ℕ) (xs : List (List ℕ)) (f : Front) → triggered (frontOf f x false) ≡ true → FromHead (pre ++ (x ++ flatten xs)) (bytesIn (reachesOf f x) ++ flatten xs) → FromStream (pre ++ flatten (x ∷ xs)) (reachedBy f (x ∷ xs))
 unfolding reachedBy flatten
 with-rest pre x xs f e h = inr (rw (whole-chunks (frontOf f x false) xs e) h)
@@ -189,8 +225,36 @@ reached-from pre f (x ∷ xs) q = chunk-reached pre x xs f q (λ (n : Untriggere
 -- Over a whole stream, however it is cut: nothing without a trigger; else at most the last three bytes of the head, always its
 -- last two where it has them, then all that follows.
 pub stream-reaches : (chunks : List (List ℕ)) → FromStream (flatten chunks) (reachedBy fresh chunks)
-unfolding last any
-stream-reaches chunks = reached-from [] fresh chunks (record { triggerless = refl; context-is = refl; no-escape = refl; none-seen = refl })
+stream-reaches chunks = reached-from [] fresh chunks fresh-quiet
+
+-- ---- the trigger
+pub stays-met : (f : Front) (chunks : List (List ℕ)) → triggered f ≡ true → triggered (frontThrough f chunks) ≡ true
+unfolding frontThrough
+stays-met f [] e = e
+stays-met f (x ∷ xs) e = stays-met (frontOf f x false) xs (stays-triggered f x e)
+
+begins-has : (rest : List ℕ) → Begins rest → any isTrigger rest ≡ true
+unfolding any
+begins-has [] e = absurd e
+begins-has (b ∷ bs) e = rw e
+
+has-one : (stream reached : List ℕ) → FromHead stream reached → any isTrigger stream ≡ true
+has-one stream reached h = ap (any isTrigger) (h .cut) ∙ (any-append isTrigger (h .head) (h .rest) ∙ rw (h .triggerless, begins-has (h .rest) (h .begins)))
+
+-- one chunk, given what holds of the chunks after it as long as no trigger is met
+chunk-met : (pre x : List ℕ) (xs : List (List ℕ)) (f : Front) → Untriggered pre f → (Untriggered (pre ++ x) (frontOf f x false) → triggered (frontThrough (frontOf f x false) xs) ≡ any isTrigger ((pre ++ x) ++ flatten xs)) → (r : Scanned) → scanOf x ≡ r → triggered (frontThrough (frontOf f x false) xs) ≡ any isTrigger (pre ++ (x ++ flatten xs))
+chunk-met pre x xs f q more (scanned.Escape n) e = stays-met (frontOf f x false) xs (now-escape pre x f q n e) ∙ sym (has-one _ _ (at-escape pre x f q n (flatten xs) e))
+chunk-met pre x xs f q more (scanned.NonAscii n) e = stays-met (frontOf f x false) xs (now-non-ascii pre x f q n e) ∙ sym (has-one _ _ (at-non-ascii pre x f q n (flatten xs) e))
+chunk-met pre x xs f q more scanned.End e = more (untriggered-next pre x f q e) ∙ ap (any isTrigger) (append-assoc pre x (flatten xs))
+
+met-from : (pre : List ℕ) (f : Front) (chunks : List (List ℕ)) → Untriggered pre f → triggered (frontThrough f chunks) ≡ any isTrigger (pre ++ flatten chunks)
+unfolding frontThrough flatten
+met-from pre f [] q = not-triggered pre f q ∙ sym (ap (any isTrigger) (append-nil pre) ∙ q .triggerless)
+met-from pre f (x ∷ xs) q = chunk-met pre x xs f q (λ (n : Untriggered (pre ++ x) (frontOf f x false)). met-from (pre ++ x) (frontOf f x false) xs n) (scanOf x) refl
+
+-- A trigger was met exactly if the stream has one.
+pub stream-met : (chunks : List (List ℕ)) → triggered (frontThrough fresh chunks) ≡ any isTrigger (flatten chunks)
+stream-met chunks = met-from [] fresh chunks fresh-quiet
 
 -- ---- the count
 counts-so : (f : Front) (chunks : List (List ℕ)) → frontThrough f chunks .«non_ascii_seen» ≡ f .«non_ascii_seen» + nonAsciiCount (reachedBy f chunks)

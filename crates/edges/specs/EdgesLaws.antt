@@ -40,8 +40,7 @@ use Rattle.kinds.specs.Kinds.{freshOf, stepOf}
 use Rattle.kinds.specs.KindsLaws.{run-utf-8, run-iso2022jp, run-big5, run-euckr}
 use Rattle.tables.specs.Own.{ownOf}
 use Rattle.tables.specs.OwnLaws.{own-sized}
-use Rattle.tables.specs.Tables.{Tables, Sized, sizedB}
-use Rattle.tables.specs.TablesLaws.{true-sized}
+use Rattle.tables.specs.Tables.{Tables, Sized}
 use Rattle.kinds.specs.declared.machine.Machine.{Machine}
 use Rattle.kinds.specs.declared.machine.Machine.the-variants.{Utf8, Iso2022Jp, EucKr, Big5}
 use Rattle.places.specs.Place.{place, placeAs, feedOf as feedPlace}
@@ -52,11 +51,11 @@ use Rattle.places.specs.declared.place.Place.{Place}
 use Rattle.places.specs.declared.place.Score.the-variants.{Live}
 use Rattle.detector.specs.Feed.{placesBy, advanceOf, accepted, feedOf}
 use Rattle.detector.specs.Kept.{Passed}
-use Rattle.detector.specs.FeedLaws.{judged-accept, feed-accepted}
+use Rattle.detector.specs.FeedLaws.{fit-accepted, first-passed}
 use Rattle.state.specs.State.{fresh, startOf}
 use Rattle.detector.specs.Front.{foundAs, triggerOf, some, reachesAt, reachesBy, reachesOf, contextBy, escBy}
 use Rattle.state.specs.Order.{InOrder}
-use Rattle.state.specs.OrderLaws.{true-order, start-in-order}
+use Rattle.state.specs.OrderLaws.{start-in-order}
 use Rattle.detector.specs.OrderLaws.{advance-in-order}
 use Rattle.detector.specs.declared.feed.Fed.{Fed}
 use Rattle.state.specs.declared.State.{State}
@@ -64,20 +63,14 @@ use Rattle.edges.specs.Edges.{stateAfter, FedAs, Leaves, withoutLong, Ad
 
 -- ---- a chunk that passes the tests
 module _ (t : Tables) (s : State) (xs : List ℕ) (passed : Passed t s xs) where
-  fed-is : (last : Bool) → feedOf t s xs last ≡ accepted (advanceOf t s xs last)
-  fed-is last = sym (feed-accepted t s xs last (judged-accept s (sizedB t) (length xs) (true-order s (passed .in-order)) (passed .going) (true-sized t (passed .sized)) (passed .short)))
-
   fed-as : (before part : List ℕ) → reachesOf (s .front) xs ≡ some before part → FedAs t s xs before part
   unfolding advanceOf placesBy
-  fed-as before part e = record { reach = e; fed = λ (last : Bool). ap (λ (f : Fed). f .state .places) (fed-is last) ∙ rw e }
+  fed-as before part e = record { reach = e; fed = λ (last : Bool). ap (λ (f : Fed). f .state .places) (fit-accepted t s xs passed last) ∙ rw e }
 
 -- ---- a first chunk
-first-passed : (t : Tables) → Sized t → (bits : ℕ) (xs : List ℕ) → length xs ≤ limit → Passed t (startOf bits) xs
-first-passed t z bits xs h = record { sized = z; in-order = start-in-order bits; going = refl; short = omega (arith, h) }
-
 module _ (t : Tables) (z : Sized t) (bits : ℕ) where
   first-is : (xs : List ℕ) → length xs ≤ limit → (last : Bool) → feedOf t (startOf bits) xs last ≡ accepted (advanceOf t (startOf bits) xs last)
-  first-is xs h last = fed-is t (startOf bits) xs (first-passed t z bits xs h) last
+  first-is xs h last = fit-accepted t (startOf bits) xs (first-passed t z bits xs h) last
 
   first-as : (xs part : List ℕ) → length xs ≤ limit → reachesOf fresh xs ≡ some [] part → FedAs t (startOf bits) xs [] part
   first-as xs part h e = fed-as t (startOf bits) xs (first-passed t z bits xs h) [] part e
@@ -114,7 +107,7 @@ module _ (t : Tables) (z : Sized t) (bits : ℕ) (c : Context) (n : ℕ) (o : In
     saved-as = rw e
 
     saved-is : stateAfter t (saving bits c n) xs ≡ saving bits (pushOf c xs) (n + length xs)
-    saved-is = ap (λ (f : Fed). f .state) (fed-is t (saving bits c n) xs saving-passed false) ∙ saved-as
+    saved-is = ap (λ (f : Fed). f .state) (fit-accepted t (saving bits c n) xs saving-passed false) ∙ saved-as
 
     saved-in-order : InOrder (saving bits (pushOf c xs) (n + length xs))
     unfolding triggerOf reachesBy

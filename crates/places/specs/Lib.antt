@@ -1,3 +1,5 @@
+pub mod HeadLaws
+pub mod JoinLaws
 pub mod Kept
 pub mod Order
 pub mod OrderLaws
