@@ -8,7 +8,7 @@ use lib.ListN.{set, replicate}
 use Rattle.lengths.specs.Lengths.{classCount, markCount, pairCount, big5Count, eucKrCount, jisCount, extraCount, weightCount}
 use Rattle.octets.specs.Octets.{between, upperCase, lowerCase}
 use Rattle.tables.specs.Tables.{Tables, tables}
-use Rattle.weights.specs.Weights.{placeOf, case, latinAdjacency, big5Pua}
+use Rattle.weights.specs.Weights.{indexOf, case, latinAdjacency, big5Pua}
 
 -- f of each of the n numbers from k on
 unfoldable pub tabled : (ℕ → ℕ) → ℕ → ℕ → List ℕ
@@ -42,7 +42,7 @@ minus n = negℤ (pos n)
 
 -- case, Latin adjacency and Big5 private use; the rest 0
 unfoldable pub weights : List ℤ
-weights = set (set (set (replicate weightCount (pos 0)) (placeOf case) (minus 3)) (placeOf latinAdjacency) (minus 5)) (placeOf big5Pua) (minus 7)
+weights = set (set (set (replicate weightCount (pos 0)) (indexOf case) (minus 3)) (indexOf latinAdjacency) (minus 5)) (indexOf big5Pua) (minus 7)
 
 -- each of the four single-byte places has the same classes, marks and pair scores
 abbrev pub demonstration : Tables

@@ -199,9 +199,9 @@ module _ (pre x : List ℕ) (f : Front) (q : Untriggered pre f) where
       at scanned.End e = inl (record { next = untriggered-next e; nothing = nothing-reaches e })
 
 -- ---- the whole stream
-pub fresh-quiet : Untriggered [] fresh
+pub fresh-untriggered : Untriggered [] fresh
 unfolding last any
-fresh-quiet = record { triggerless = refl; context-is = refl; no-escape = refl; none-seen = refl }
+fresh-untriggered = record { triggerless = refl; context-is = refl; no-escape = refl; none-seen = refl }
 
 with-rest : (pre x : List ℕ) (xs : List (List ℕ)) (f : Front) → triggered (frontOf f x false) ≡ true → FromHead (pre ++ (x ++ flatten xs)) (bytesIn (reachesOf f x) ++ flatten xs) → FromStream (pre ++ flatten (x ∷ xs)) (reachedBy f (x ∷ xs))
 unfolding reachedBy flatten
@@ -225,7 +225,7 @@ reached-from pre f (x ∷ xs) q = chunk-reached pre x xs f q (λ (n : Untriggere
 -- Over a whole stream, however it is cut: nothing without a trigger; else at most the last three bytes of the head, always its
 -- last two where it has them, then all that follows.
 pub stream-reaches : (chunks : List (List ℕ)) → FromStream (flatten chunks) (reachedBy fresh chunks)
-stream-reaches chunks = reached-from [] fresh chunks fresh-quiet
+stream-reaches chunks = reached-from [] fresh chunks fresh-untriggered
 
 -- ---- the trigger
 pub stays-met : (f : Front) (chunks : List (List ℕ)) → triggered f ≡ true → triggered (frontThrough f chunks) ≡ true
@@ -254,7 +254,7 @@ met-from pre f (x ∷ xs) q = chunk-met pre x xs f q (λ (n : Untriggered (pre +
 
 -- A trigger was met exactly if the stream has one.
 pub stream-met : (chunks : List (List ℕ)) → triggered (frontThrough fresh chunks) ≡ any isTrigger (flatten chunks)
-stream-met chunks = met-from [] fresh chunks fresh-quiet
+stream-met chunks = met-from [] fresh chunks fresh-untriggered
 
 -- ---- the count
 counts-so : (f : Front) (chunks : List (List ℕ)) → frontThrough f chunks .«non_ascii_seen» ≡ f .«non_ascii_seen» + nonAsciiCount (reachedBy f chunks)

@@ -14,12 +14,12 @@ use Rattle.state.specs.State.{flagOf}
 use Rattle.state.specs.declared.State.{State}
 use Rattle.state.specs.declared.reply.Reply.the-variants.{Closed, WrongLength, TooLong, NotInOrder}
 use Rattle.detector.specs.Feed.{verdictOf, refusalOf, advanceOf, feedBy}
-use Rattle.detector.specs.FeedLaws.{accept-fit, feed-accepted}
-use Rattle.detector.specs.Kept.{Fit}
+use Rattle.detector.specs.FeedLaws.{accept-passed, feed-accepted}
+use Rattle.detector.specs.Kept.{Passed}
 use Rattle.detector.specs.declared.feed.Fed.{Fed}
 use Rattle.detector.specs.declared.feed.Verdict.{Verdict}
 use Rattle.detector.specs.declared.feed.Verdict.the-variants.{Accept, Refuse}
-use Rattle.privacy.specs.Privacy.{Call, after, afterCalls, Accepted, AllAccepted}
+use Rattle.privacy.specs.Privacy.{Call, stateAfter, afterCalls, Accepted, AllAccepted}
 
 -- ---- one call
 module _ (t : Tables) (s : State) (c : Call) where
@@ -46,13 +46,13 @@ module _ (t : Tables) (s : State) (c : Call) where
     unfolding verdictOf
     accept-is = only-accept (stateB s) (s .front .closed) (sizedB t) (ltb limit (s .front .bytes + length (c .chunk))) a
 
-    pub accepted-fit : Fit t s (c .chunk)
-    accepted-fit = accept-fit t s (c .chunk) accept-is
+    pub accepted-fit : Passed t s (c .chunk)
+    accepted-fit = accept-passed t s (c .chunk) accept-is
 
-    pub accepted-advances : after t s c ≡ advanceOf t s (c .chunk) (c .is-last)
+    pub accepted-advances : stateAfter t s c ≡ advanceOf t s (c .chunk) (c .is-last)
     accepted-advances = sym (ap (λ (f : Fed). f .state) (feed-accepted t s (c .chunk) (c .is-last) accept-is))
 
-    accepted-closes : after t s c .front .closed ≡ c .is-last
+    accepted-closes : stateAfter t s c .front .closed ≡ c .is-last
     unfolding advanceOf
     accepted-closes = ap (λ (x : State). x .front .closed) accepted-advances
 
@@ -64,7 +64,7 @@ advanced t s (c ∷ cs) = advanced t (advanceOf t s (c .chunk) (c .is-last)) cs
 pub calls-advance : (t : Tables) (s : State) (calls : List Call) → AllAccepted t s calls → afterCalls t s calls ≡ advanced t s calls
 unfolding afterCalls advanced
 calls-advance t s [] a = refl
-calls-advance t s (c ∷ cs) a = calls-advance t (after t s c) cs (a .1) ∙ ap (λ (x : State). advanced t x cs) (accepted-advances t s c (a .0))
+calls-advance t s (c ∷ cs) a = calls-advance t (stateAfter t s c) cs (a .1) ∙ ap (λ (x : State). advanced t x cs) (accepted-advances t s c (a .0))
 
 -- there is a final call, and it is the only one that closes
 abbrev pub OnlyFinal : List Call → Type 0
@@ -80,5 +80,5 @@ unfolding afterCalls
 final-closes t s [] o a e = differ (sym o ∙ e)
 final-closes t s (c ∷ []) o a e = sym (accepted-closes t s c (a .0)) ∙ e
 final-closes t s (c ∷ d ∷ ds) o a e =
-    let next = accepted-fit t (after t s c) d (a .1 .0) .going in
-    (sym (accepted-closes t s c (a .0)) ∙ next, final-closes t (after t s c) (d ∷ ds) next (a .1) e)
+    let next = accepted-fit t (stateAfter t s c) d (a .1 .0) .going in
+    (sym (accepted-closes t s c (a .0)) ∙ next, final-closes t (stateAfter t s c) (d ∷ ds) next (a .1) e)

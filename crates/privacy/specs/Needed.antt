@@ -8,7 +8,7 @@ use lib.IntN.{ℤ, pos}
 use lib.ListN.{set, replicate}
 use Rattle.laws.specs.Lists.{last}
 use Rattle.lengths.specs.Lengths.{classCount, markCount, pairCount, big5Count, eucKrCount, jisCount, extraCount, weightCount}
-use Rattle.weights.specs.Weights.{placeOf, case}
+use Rattle.weights.specs.Weights.{indexOf, case}
 use Rattle.context.specs.Head.{headOf}
 use Rattle.tables.specs.Tables.{Tables, tables}
 use Rattle.state.specs.State.{startOf}
@@ -68,7 +68,7 @@ lettered = lentWith (set (zeros classCount) 0x41 2) (set (zeros markCount) 2 1) 
 
 -- 41 and 42 are capitals and E9 is a small letter, all Latin; the case weight is 1
 abbrev pub latin : Tables
-latin = lentWith (set (set (set (zeros classCount) 0x41 0x81) 0x42 0x81) 0xE9 1) (zeros markCount) (set (noScores weightCount) (placeOf case) (pos 1))
+latin = lentWith (set (set (set (zeros classCount) 0x41 0x81) 0x42 0x81) 0xE9 1) (zeros markCount) (set (noScores weightCount) (indexOf case) (pos 1))
 
 -- ---- the streams
 -- 41 42 E9 and 20 42 E9

@@ -12,12 +12,12 @@ use Rattle.laws.specs.Carried.{carried}
 use Rattle.laws.specs.Limit.{limit}
 use Rattle.laws.specs.Lists.{any, count, last}
 use Rattle.laws.specs.Memory.{all}
-use Rattle.laws.specs.Run.{plus, feed, run, ended}
+use Rattle.laws.specs.Run.{plus, withByte, run, ended}
 use Rattle.laws.specs.Tests.{both, off}
 use Rattle.lengths.specs.Lengths.{classCount, markCount, pairCount, big5Count, eucKrCount, jisCount, extraCount, weightCount}
 use Rattle.context.specs.Context.{pushOf}
 use Rattle.context.specs.Head.{isTrigger, headOf, scanOf}
-use Rattle.single.specs.Pair.{adjacentOf, pairOf}
+use Rattle.single.specs.Pair.{adjacentOf, pairGainOf}
 use Rattle.utf8.specs.Utf8 as utf-8
 use Rattle.iso2022jp.specs.Iso2022Jp.{isText, asciiOf, escapeStartOf, designated, stateOf, escapedTo, stepIn, closeIn}
 use Rattle.arabic_french.specs.ArabicFrench as arabicFrench
@@ -36,9 +36,9 @@ use Rattle.state.specs.Reply.{numberOf}
 use Rattle.state.specs.State.{fresh, startOf}
 use Rattle.state.specs.declared.State.{State}
 use Rattle.detector.specs.Feed.{advanceOf, feedOf}
-use Rattle.detector.specs.FeedLaws.{fit-accepted, first-fit}
+use Rattle.detector.specs.FeedLaws.{fit-accepted, first-passed}
 use Rattle.detector.specs.Front.{none, reachesAt, reachesBy, reachesOf, triggerOf, contextBy, escBy}
-use Rattle.detector.specs.Kept.{Fit}
+use Rattle.detector.specs.Kept.{Passed}
 use Rattle.detector.specs.OrderLaws.{advance-in-order}
 use Rattle.detector.specs.Stream.{reachedBy}
 use Rattle.detector.specs.declared.feed.Fed.{Fed}
@@ -87,7 +87,7 @@ module _ (t : Tables) (z : Sized t) (bits : ℕ) where
   whole-closed : (xs : List ℕ) → length xs ≤ limit → ClosedStream t bits (whole xs)
   unfolding afterCalls numberOf advanceOf
   whole-closed xs h =
-      let e = fit-accepted t (startOf bits) xs (first-fit t z bits xs h) true in
+      let e = fit-accepted t (startOf bits) xs (first-passed t z bits xs h) true in
       record { accepted = (ap (λ (f : Fed). numberOf (f .reply)) e, tt); closed = ap (λ (f : Fed). f .state .front .closed) e }
 
   -- the first of two is saved
@@ -95,10 +95,10 @@ module _ (t : Tables) (z : Sized t) (bits : ℕ) where
     abbrev between : State
     between = advanceOf t (startOf bits) xs false
 
-    first : Fit t (startOf bits) xs
-    first = first-fit t z bits xs (omega arith)
+    first : Passed t (startOf bits) xs
+    first = first-passed t z bits xs (omega arith)
 
-    second : Fit t between ys
+    second : Passed t between ys
     unfolding advanceOf
     second = record { sized = z; in-order = advance-in-order t (startOf bits) xs false first (rw saved tt); going = refl; short = omega (arith, short) }
 
@@ -152,11 +152,11 @@ one-apart : Live (pos 1) ≡ Live (pos 0) → ⊥
 one-apart e = let z : _≡_ {A = ℕ} 1 0 = cc in omega arith
 
 after-capitals : leftIn latin 7 (0x41 ∷ 0x42 ∷ 0xE9 ∷ []) .score ≡ Live (pos 1)
-unfolding slate.startOf fedFrom placeAs run feed plus ended stepOf closeOf carried arabicFrench.stepOf pairOf adjacentOf zeros noScores
+unfolding slate.startOf fedFrom placeAs run withByte plus ended stepOf closeOf carried arabicFrench.stepOf pairGainOf adjacentOf zeros noScores
 after-capitals = refl
 
 after-space : leftIn latin 7 (0x20 ∷ 0x42 ∷ 0xE9 ∷ []) .score ≡ Live (pos 0)
-unfolding slate.startOf fedFrom placeAs run feed plus ended stepOf closeOf carried arabicFrench.stepOf pairOf adjacentOf zeros noScores
+unfolding slate.startOf fedFrom placeAs run withByte plus ended stepOf closeOf carried arabicFrench.stepOf pairGainOf adjacentOf zeros noScores
 after-space = refl
 
 -- ---- class 255, and an alphabetic class, at the third byte
@@ -164,11 +164,11 @@ barred-sized : Sized barred
 barred-sized = with-sized _ _ _ (simp length-set (zeros-length classCount)) (zeros-length markCount) (noScores-length weightCount)
 
 with-41 : leftIn barred 4 (0x41 ∷ 0x20 ∷ 0x20 ∷ 0xE9 ∷ []) .score ≡ None
-unfolding slate.startOf fedFrom placeAs run feed plus ended stepOf closeOf carried caseless.stepOf pairOf adjacentOf zeros noScores
+unfolding slate.startOf fedFrom placeAs run withByte plus ended stepOf closeOf carried caseless.stepOf pairGainOf adjacentOf zeros noScores
 with-41 = refl
 
 without-41 : leftIn barred 4 (0x20 ∷ 0x20 ∷ 0xE9 ∷ []) .score ≡ Live (pos 0)
-unfolding slate.startOf fedFrom placeAs run feed plus ended stepOf closeOf carried caseless.stepOf pairOf adjacentOf zeros noScores
+unfolding slate.startOf fedFrom placeAs run withByte plus ended stepOf closeOf carried caseless.stepOf pairGainOf adjacentOf zeros noScores
 without-41 = refl
 
 lettered-sized : Sized lettered
@@ -186,14 +186,14 @@ longest (Visual m) = 0
 longest (ArabicFrench m) = 0
 
 word-of-41 : longest (leftIn lettered 4 (0x41 ∷ 0x20 ∷ 0x20 ∷ 0xE9 ∷ []) .machine) ≡ 1
-unfolding slate.startOf fedFrom placeAs run feed plus ended stepOf closeOf carried caseless.stepOf pairOf adjacentOf zeros noScores
+unfolding slate.startOf fedFrom placeAs run withByte plus ended stepOf closeOf carried caseless.stepOf pairGainOf adjacentOf zeros noScores
 word-of-41 = refl
 
 word-apart : _≡_ {A = ℕ} 1 0 → ⊥
 word-apart e = omega arith
 
 no-word : longest (leftIn lettered 4 (0x20 ∷ 0x20 ∷ 0xE9 ∷ []) .machine) ≡ 0
-unfolding slate.startOf fedFrom placeAs run feed plus ended stepOf closeOf carried caseless.stepOf pairOf adjacentOf zeros noScores
+unfolding slate.startOf fedFrom placeAs run withByte plus ended stepOf closeOf carried caseless.stepOf pairGainOf adjacentOf zeros noScores
 no-word = refl
 
 -- ---- 0E and 0F at the third byte
@@ -201,15 +201,15 @@ nothing-sized : Sized nothingLent
 nothing-sized = with-sized _ _ _ (zeros-length classCount) (zeros-length markCount) (noScores-length weightCount)
 
 with-0e : leftIn nothingLent 1 (0x0E ∷ 0x20 ∷ 0x20 ∷ 0x1B ∷ 0x28 ∷ 0x42 ∷ []) .score ≡ None
-unfolding slate.startOf fedFrom placeAs run feed plus ended stepOf closeOf carried stepIn asciiOf isText escapeStartOf designated stateOf escapedTo closeIn any
+unfolding slate.startOf fedFrom placeAs run withByte plus ended stepOf closeOf carried stepIn asciiOf isText escapeStartOf designated stateOf escapedTo closeIn any
 with-0e = refl
 
 with-0f : leftIn nothingLent 1 (0x0F ∷ 0x20 ∷ 0x20 ∷ 0x1B ∷ 0x28 ∷ 0x42 ∷ []) .score ≡ None
-unfolding slate.startOf fedFrom placeAs run feed plus ended stepOf closeOf carried stepIn asciiOf isText escapeStartOf designated stateOf escapedTo closeIn any
+unfolding slate.startOf fedFrom placeAs run withByte plus ended stepOf closeOf carried stepIn asciiOf isText escapeStartOf designated stateOf escapedTo closeIn any
 with-0f = refl
 
 without-shift : leftIn nothingLent 1 (0x20 ∷ 0x20 ∷ 0x1B ∷ 0x28 ∷ 0x42 ∷ []) .score ≡ Live (pos 0)
-unfolding slate.startOf fedFrom placeAs run feed plus ended stepOf closeOf carried stepIn asciiOf isText escapeStartOf designated stateOf escapedTo closeIn any
+unfolding slate.startOf fedFrom placeAs run withByte plus ended stepOf closeOf carried stepIn asciiOf isText escapeStartOf designated stateOf escapedTo closeIn any
 without-shift = refl
 
 -- ---- all

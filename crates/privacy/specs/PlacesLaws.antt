@@ -18,8 +18,8 @@ use Rattle.state.specs.declared.State.{State}
 use Rattle.state.specs.declared.front.Front.{Front}
 use Rattle.detector.specs.Feed.{placesBy, advanceOf}
 use Rattle.detector.specs.Front.{Reaches, none, some, bytesIn, reachesOf, frontOf}
-use Rattle.detector.specs.Stream.{frontAfter, reachedBy, Something, Reached}
-use Rattle.detector.specs.StreamLaws.{whole-reach, stays-triggered, Quiet, Saves, Meets, untriggered, chunk-way, fresh-quiet, stays-met, stream-met, stream-reaches}
+use Rattle.detector.specs.Stream.{frontThrough, reachedBy, Something, FromStream}
+use Rattle.detector.specs.StreamLaws.{whole-reach, stays-triggered, Untriggered, Saves, Meets, not-triggered, chunk-way, fresh-untriggered, stays-met, stream-met, stream-reaches}
 use Rattle.privacy.specs.CallsLaws.{advanced, calls-advance, OnlyFinal, final-closes}
 use Rattle.privacy.specs.Privacy.{Call, afterCalls, ClosedStream, chunksOf, streamOf, restOf}
 use Rattle.privacy.specs.SplitLaws.{head-of, rest-of}
@@ -28,12 +28,12 @@ use Rattle.privacy.specs.SplitLaws.{head-of, rest-of}
 abbrev pub shut : Front → Front
 shut f = record { context = f .context; «esc_seen» = f .«esc_seen»; «non_ascii_seen» = f .«non_ascii_seen»; closed = true; bytes = f .bytes }
 
-front-shuts : (t : Tables) (s : State) (calls : List Call) → OnlyFinal calls → advanced t s calls .front ≡ shut (frontAfter (s .front) (chunksOf calls))
-unfolding advanced advanceOf frontAfter
+front-shuts : (t : Tables) (s : State) (calls : List Call) → OnlyFinal calls → advanced t s calls .front ≡ shut (frontThrough (s .front) (chunksOf calls))
+unfolding advanced advanceOf frontThrough
 front-shuts t s [] o = absurd o
 front-shuts t s (c ∷ []) o = rw o
 front-shuts t s (c ∷ d ∷ ds) o =
-    front-shuts t (advanceOf t s (c .chunk) (c .is-last)) (d ∷ ds) (o .1) ∙ ap (λ (l : Bool). shut (frontAfter (frontOf (s .front) (c .chunk) l) (chunksOf (d ∷ ds)))) (o .0)
+    front-shuts t (advanceOf t s (c .chunk) (c .is-last)) (d ∷ ds) (o .1) ∙ ap (λ (l : Bool). shut (frontThrough (frontOf (s .front) (c .chunk) l) (chunksOf (d ∷ ds)))) (o .0)
 
 -- ---- the places
 module _ (t : Tables) where
@@ -74,19 +74,19 @@ module _ (t : Tables) where
 
   -- before it: the places are as they were, or fed what reached them, by whether a trigger was met
   abbrev settled : State → List Call → List Place
-  settled s calls = cond (triggered (frontAfter (s .front) (chunksOf calls))) (feedAll t true (reachedBy (s .front) (chunksOf calls)) (s .places)) (s .places)
+  settled s calls = cond (triggered (frontThrough (s .front) (chunksOf calls))) (feedAll t true (reachedBy (s .front) (chunksOf calls)) (s .places)) (s .places)
 
   final-way : (pre : List ℕ) (s : State) (c : Call) → c .is-last ≡ true → Saves pre (c .chunk) (s .front) ⊎ Meets (c .chunk) (s .front) → advanced t s (c ∷ []) .places ≡ settled s (c ∷ [])
-  unfolding advanced reachedBy frontAfter advanceOf
-  final-way pre s c o (inl w) = rw (untriggered (pre ++ c .chunk) (frontOf (s .front) (c .chunk) false) (w .next)) (unreached-places (c .is-last) (s .places) (reachesOf (s .front) (c .chunk)) (w .nothing))
+  unfolding advanced reachedBy frontThrough advanceOf
+  final-way pre s c o (inl w) = rw (not-triggered (pre ++ c .chunk) (frontOf (s .front) (c .chunk) false) (w .next)) (unreached-places (c .is-last) (s .places) (reachesOf (s .front) (c .chunk)) (w .nothing))
   final-way pre s c o (inr w) = rw (w .now) (ap (λ (l : Bool). advanceOf t s (c .chunk) l .places) o ∙ ends s (c .chunk) (w .reaches))
 
-  more-way : (pre : List ℕ) (s : State) (c : Call) (cs : List Call) → c .is-last ≡ false → OnlyFinal cs → (Quiet (pre ++ c .chunk) (frontOf (s .front) (c .chunk) false) → advanced t (advanceOf t s (c .chunk) false) cs .places ≡ settled (advanceOf t s (c .chunk) false) cs) → Saves pre (c .chunk) (s .front) ⊎ Meets (c .chunk) (s .front) → advanced t s (c ∷ cs) .places ≡ settled s (c ∷ cs)
-  unfolding advanced reachedBy frontAfter advanceOf
+  more-way : (pre : List ℕ) (s : State) (c : Call) (cs : List Call) → c .is-last ≡ false → OnlyFinal cs → (Untriggered (pre ++ c .chunk) (frontOf (s .front) (c .chunk) false) → advanced t (advanceOf t s (c .chunk) false) cs .places ≡ settled (advanceOf t s (c .chunk) false) cs) → Saves pre (c .chunk) (s .front) ⊎ Meets (c .chunk) (s .front) → advanced t s (c ∷ cs) .places ≡ settled s (c ∷ cs)
+  unfolding advanced reachedBy frontThrough advanceOf
   more-way pre s c cs o later more (inl w) =
       let x = c .chunk in
       let f = frontOf (s .front) (c .chunk) false in
-      let met = triggered (frontAfter (frontOf (s .front) (c .chunk) false) (chunksOf cs)) in
+      let met = triggered (frontThrough (frontOf (s .front) (c .chunk) false) (chunksOf cs)) in
       let r = reachedBy (frontOf (s .front) (c .chunk) false) (chunksOf cs) in
       ap (λ (l : Bool). advanced t (advanceOf t s x l) cs .places) o
       ∙ (more (w .next)
@@ -99,13 +99,13 @@ module _ (t : Tables) where
       (ap (λ (l : Bool). advanced t (advanceOf t s x l) cs .places) o
       ∙ goes-on s x (advanced t (advanceOf t s x false) cs .places) (reachedBy f (chunksOf cs)) (w .reaches) (met-places (advanceOf t s x false) cs later (w .now)))
 
-  quiet-places : (pre : List ℕ) (s : State) (calls : List Call) → OnlyFinal calls → Quiet pre (s .front) → advanced t s calls .places ≡ settled s calls
+  quiet-places : (pre : List ℕ) (s : State) (calls : List Call) → OnlyFinal calls → Untriggered pre (s .front) → advanced t s calls .places ≡ settled s calls
   unfolding advanceOf
   quiet-places pre s [] o q = absurd o
   quiet-places pre s (c ∷ []) o q = final-way pre s c o (chunk-way pre (c .chunk) (s .front) q)
   quiet-places pre s (c ∷ d ∷ ds) o q =
       more-way pre s c (d ∷ ds) (o .0) (o .1)
-      (λ (n : Quiet (pre ++ c .chunk) (frontOf (s .front) (c .chunk) false)). quiet-places (pre ++ c .chunk) (advanceOf t s (c .chunk) false) (d ∷ ds) (o .1) n)
+      (λ (n : Untriggered (pre ++ c .chunk) (frontOf (s .front) (c .chunk) false)). quiet-places (pre ++ c .chunk) (advanceOf t s (c .chunk) false) (d ∷ ds) (o .1) n)
       (chunk-way pre (c .chunk) (s .front) q)
 
 -- ---- a closed stream
@@ -116,14 +116,14 @@ module _ (t : Tables) (bits : ℕ) (calls : List Call) (closed : ClosedStream t 
   chain : afterCalls t (startOf bits) calls ≡ advanced t (startOf bits) calls
   chain = calls-advance t (startOf bits) calls (closed .accepted)
 
-  pub stream-front : afterCalls t (startOf bits) calls .front ≡ shut (frontAfter fresh (chunksOf calls))
+  pub stream-front : afterCalls t (startOf bits) calls .front ≡ shut (frontThrough fresh (chunksOf calls))
   stream-front = ap (λ (s : State). s .front) chain ∙ front-shuts t (startOf bits) calls final
 
   pub stream-places : afterCalls t (startOf bits) calls .places ≡ cond (any isTrigger (streamOf calls)) (feedAll t true (reachedBy fresh (chunksOf calls)) (slate.startOf bits)) (slate.startOf bits)
   stream-places =
       let start = slate.startOf bits in
       ap (λ (s : State). s .places) chain
-      ∙ (quiet-places t [] (startOf bits) calls final fresh-quiet
+      ∙ (quiet-places t [] (startOf bits) calls final fresh-untriggered
       ∙ ap (λ (met : Bool). cond met (feedAll t true (reachedBy fresh (chunksOf calls)) start) start) (stream-met (chunksOf calls)))
 
 -- fed the last two or three bytes of the head, then the rest, and closed; or as they started
@@ -133,7 +133,7 @@ pub record FromStart (t : Tables) (bits : ℕ) (stream : List ℕ) (ps : List Pl
   pub three : kept ≤ 3
   pub is : ps ≡ cond (any isTrigger stream) (feedAll t true (last kept (headOf stream) ++ restOf stream) (slate.startOf bits)) (slate.startOf bits)
 
-from-reached : (t : Tables) (bits : ℕ) (stream reached : List ℕ) (ps : List Place) → ps ≡ cond (any isTrigger stream) (feedAll t true reached (slate.startOf bits)) (slate.startOf bits) → Reached stream reached → FromStart t bits stream ps
+from-reached : (t : Tables) (bits : ℕ) (stream reached : List ℕ) (ps : List Place) → ps ≡ cond (any isTrigger stream) (feedAll t true reached (slate.startOf bits)) (slate.startOf bits) → FromStream stream reached → FromStart t bits stream ps
 from-reached t bits stream reached ps e (inl (p, q)) = record { kept = 2; two = omega arith; three = omega arith; is = e ∙ rw p }
 from-reached t bits stream reached ps e (inr h) =
     let start = slate.startOf bits in

@@ -29,12 +29,12 @@ abbrev pub call : List ℕ → Bool → Call
 call xs l = record { chunk = xs; is-last = l }
 
 -- what one call leaves, and all of them, each over the same lent data
-abbrev pub after : Tables → State → Call → State
-after t s c = feedOf t s (c .chunk) (c .is-last) .state
+abbrev pub stateAfter : Tables → State → Call → State
+stateAfter t s c = feedOf t s (c .chunk) (c .is-last) .state
 
 unfoldable pub afterCalls : Tables → State → List Call → State
 afterCalls t s [] = s
-afterCalls t s (c ∷ cs) = afterCalls t (after t s c) cs
+afterCalls t s (c ∷ cs) = afterCalls t (stateAfter t s c) cs
 
 -- reply 0
 abbrev pub Accepted : Tables → State → Call → Type 0
@@ -42,7 +42,7 @@ Accepted t s c = numberOf (feedOf t s (c .chunk) (c .is-last) .reply) ≡ 0
 
 abbrev pub AllAccepted : Tables → State → List Call → Type 0
 AllAccepted t s [] = Unit {0}
-AllAccepted t s (c ∷ cs) = Accepted t s c × AllAccepted t (after t s c) cs
+AllAccepted t s (c ∷ cs) = Accepted t s c × AllAccepted t (stateAfter t s c) cs
 
 -- from the start that these bits name, every call is accepted, and the stream is closed
 pub record ClosedStream (t : Tables) (bits : ℕ) (calls : List Call) : Type 0 where

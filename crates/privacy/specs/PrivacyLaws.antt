@@ -13,7 +13,7 @@ use Rattle.laws.specs.Each.{EachFrom, each-get}
 use Rattle.laws.specs.Lists.{any, any-drop, last}
 use Rattle.laws.specs.Memory.{all}
 use Rattle.context.specs.Head.{isTrigger, headOf, nonAsciiCount}
-use Rattle.context.specs.HeadLaws.{head-quiet}
+use Rattle.context.specs.HeadLaws.{head-triggerless}
 use Rattle.tables.specs.Own.{Own, nothing, ofSingle, owns, ownOf}
 use Rattle.tables.specs.Tables.{Single, Tables}
 use Rattle.kinds.specs.HeadLaws.{head-plain, bare-plain}
@@ -91,7 +91,7 @@ module _ (t : Tables) (bits : ℕ) (calls : List Call) (closed : ClosedStream t 
       let from = stream-from-start t bits calls closed in
       let start = slate.startOf bits in
       let rest = restOf (streamOf calls) in
-      let alike = ends-alike (headOf (streamOf calls)) (head-quiet (streamOf calls)) shiftless (from .kept) (from .two) in
+      let alike = ends-alike (headOf (streamOf calls)) (head-triggerless (streamOf calls)) shiftless (from .kept) (from .two) in
       from .is
       ∙ (ap (λ (b : Bool). cond b (feedAll t true (last (from .kept) (headOf stream) ++ rest) start) start) (trigger-in-rest stream)
       ∙ ap (λ (ps : List Place). cond (any isTrigger rest) ps start) (start-forgets (last (from .kept) (headOf stream)) (last 2 (headOf stream)) alike true rest t (all-plain t n l) bits))

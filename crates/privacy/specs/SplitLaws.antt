@@ -10,8 +10,8 @@ use Rattle.laws.specs.Lists.{any, any-append, count-append}
 use Rattle.laws.specs.Tests.{neither}
 use Rattle.octets.specs.Octets.{nonAscii}
 use Rattle.context.specs.Head.{isTrigger, headOf, nonAsciiCount}
-use Rattle.context.specs.HeadLaws.{head-quiet, head-take}
-use Rattle.detector.specs.FrontLaws.{plain-count}
+use Rattle.context.specs.HeadLaws.{head-triggerless, head-take}
+use Rattle.detector.specs.FrontLaws.{triggerless-count}
 use Rattle.detector.specs.Stream.{Begins, FromHead}
 use Rattle.privacy.specs.Privacy.{restOf}
 
@@ -35,7 +35,7 @@ module _ (xs : List ℕ) where
   split-joins = ap (λ (l : List ℕ). l ++ restOf xs) (sym (head-take xs)) ∙ take-append-drop (length (headOf xs)) xs
 
   pub trigger-in-rest : any isTrigger xs ≡ any isTrigger (restOf xs)
-  trigger-in-rest = ap (any isTrigger) (sym split-joins) ∙ (any-append isTrigger (headOf xs) (restOf xs) ∙ rw (head-quiet xs))
+  trigger-in-rest = ap (any isTrigger) (sym split-joins) ∙ (any-append isTrigger (headOf xs) (restOf xs) ∙ rw (head-triggerless xs))
 
   pub count-in-rest : nonAsciiCount xs ≡ nonAsciiCount (restOf xs)
-  count-in-rest = ap nonAsciiCount (sym split-joins) ∙ (count-append nonAscii (headOf xs) (restOf xs) ∙ rw (plain-count (headOf xs) (head-quiet xs), zero-add))
+  count-in-rest = ap nonAsciiCount (sym split-joins) ∙ (count-append nonAscii (headOf xs) (restOf xs) ∙ rw (triggerless-count (headOf xs) (head-triggerless xs), zero-add))
