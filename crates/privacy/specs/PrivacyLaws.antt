@@ -121,7 +121,7 @@ module _ (t : Tables) (bits : ℕ) (one two : List Call) (p : Premises t bits on
       at (inl e) = ap (last 2) e
       at (inr s) = s .ends
 
-  same-places : first .places ≡ second .places
+  pub same-places : first .places ≡ second .places
   same-places =
       places-left t bits one (p .one-closed) (p .no-255) (p .no-letter) (p .one-shiftless)
       ∙ (ap (λ (end : List ℕ). leftBy t bits end (restOf (streamOf one))) same-end

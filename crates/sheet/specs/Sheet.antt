@@ -31,11 +31,14 @@ leaderName (leader.the-variants.Place k) = placeName k
 unfoldable pub leaderLine : leader.Leader → List ℕ
 leaderLine l = ascii "leader " ++ leaderName l ++ newline
 
+abbrev pub bytesLine : ℕ → List ℕ
+bytesLine n = ascii "bytes " ++ decimalOf n ++ newline
+
 unfoldable pub sheetOf : State → List ℕ
 sheetOf s =
     ascii "slate 1"
     ++ newline
-    ++ (ascii "bytes " ++ decimalOf (s .front .bytes) ++ newline)
+    ++ bytesLine (s .front .bytes)
     ++ (ascii "nonascii " ++ decimalOf (s .front .«non_ascii_seen») ++ newline)
     ++ placeLines 0 (s .places)
     ++ leaderLine (leaderOf s)
