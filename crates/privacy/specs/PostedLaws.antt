@@ -5,10 +5,12 @@ use Prim.Native.Nat.{ℕ}
 use Rattle.scribe.specs.Text.{ascii, newline, decimalOf}
 use Rattle.places.specs.declared.place.Place.{Place}
 use Rattle.state.specs.Leader.{leaderOf}
+use Rattle.state.specs.State.{startOf}
 use Rattle.state.specs.declared.State.{State}
 use Rattle.state.specs.declared.leader.Leader.{Leader}
 use Rattle.sheet.specs.Sheet.{bytesLine, placeLines, leaderLine, sheetOf}
-use Rattle.privacy.specs.Posted.{SameButBytes, Posted}
+use Rattle.privacy.specs.Posted.{Posted}
+use Rattle.privacy.specs.Privacy.{afterCalls}
 use Rattle.privacy.specs.PrivacyLaws.{privacy, same-places}
 
 -- what stands before the line and behind it
@@ -31,12 +33,18 @@ sheet-parts s =
 
 pub posted : Posted
 posted t bits one two p =
+    let first = afterCalls t (startOf bits) one in
+    let second = afterCalls t (startOf bits) two in
     let agree = privacy t bits one two p in
+    let same : behind second ≡ behind first =
+    ap (λ (n : ℕ). behindOf n (second .places) (leaderOf second)) (sym (agree .count))
+    ∙ (ap (λ (ps : List Place). behindOf (first .front .«non_ascii_seen») ps (leaderOf second)) (sym (same-places t bits one two p))
+    ∙ ap (behindOf (first .front .«non_ascii_seen») (first .places)) (sym (agree .leader))) in
     record {
       before = title;
-      behind = behind _;
-      one-bytes = _;
-      two-bytes = _;
-      one-is = sheet-parts _;
-      two-is = sheet-parts _ ∙ rw (agree .count, agree .leader, same-places t bits one two p);
+      behind = behind first;
+      one-bytes = first .front .bytes;
+      two-bytes = second .front .bytes;
+      one-is = sheet-parts first;
+      two-is = sheet-parts second ∙ ap (λ (l : List ℕ). title ++ bytesLine (second .front .bytes) ++ l) same;
     }

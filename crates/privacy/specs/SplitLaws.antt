@@ -24,7 +24,7 @@ head-is (h ∷ hs) rest p b = let n = neither (isTrigger h) (any isTrigger hs) p
 
 module _ (stream reached : List ℕ) (h : FromHead stream reached) where
   pub head-of : h .head ≡ headOf stream
-  head-of = sym (ap headOf (h .cut) ∙ head-is (h .head) (h .rest) (h .plain) (h .begins))
+  head-of = sym (ap headOf (h .cut) ∙ head-is (h .head) (h .rest) (h .triggerless) (h .begins))
 
   pub rest-of : h .rest ≡ restOf stream
   rest-of = sym (ap (λ (l : List ℕ). drop (length l) stream) (sym head-of) ∙ (ap (drop (length (h .head))) (h .cut) ∙ drop-append-seam (h .head) (h .rest)))
