@@ -12,7 +12,7 @@ use lengths::MARKS;
 use lengths::PAIRS;
 use lengths::WEIGHTS;
 
-// The one class that is alphabetic, and the place of its pair score after itself.
+// The one class that is alphabetic, and the index of its pair score after itself.
 const LETTER: usize = 2;
 
 const LETTERS: usize = MARKS * LETTER + LETTER;
