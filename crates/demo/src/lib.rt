@@ -12,6 +12,23 @@ use lengths::MARKS;
 use lengths::PAIRS;
 use lengths::WEIGHTS;
 
+// A table of each sort.
+pub type Classes = [u8; CLASSES];
+
+pub type Marks = [u8; MARKS];
+
+pub type Pairs = [i16; PAIRS];
+
+pub type Big5 = [u32; BIG5];
+
+pub type EucKr = [u32; EUC_KR];
+
+pub type Jis = [u32; JIS];
+
+pub type Extras = [i16; EXTRAS];
+
+pub type Weights = [i32; WEIGHTS];
+
 // The one class that is alphabetic, and the index of its pair score after itself.
 const LETTER: usize = 2;
 
@@ -42,7 +59,7 @@ fn class(b: u8) -> u8
 }
 
 // The classes, marks and pair scores of each of the four single-byte places.
-pub fn classes() -> [u8; CLASSES]
+pub fn classes() -> Classes
     ensures { λ r. ⌜ r ≡ classes ⌝ }
 {
     let mut to = [0u8; CLASSES];
@@ -54,7 +71,7 @@ pub fn classes() -> [u8; CLASSES]
     to
 }
 
-pub fn marks() -> [u8; MARKS]
+pub fn marks() -> Marks
     ensures { λ r. ⌜ r ≡ marks ⌝ }
 {
     let mut to = [0u8; MARKS];
@@ -62,7 +79,7 @@ pub fn marks() -> [u8; MARKS]
     to
 }
 
-pub fn pairs() -> [i16; PAIRS]
+pub fn pairs() -> Pairs
     ensures { λ r. ⌜ r ≡ pairs ⌝ }
 {
     let mut to = [0i16; PAIRS];
@@ -71,31 +88,31 @@ pub fn pairs() -> [i16; PAIRS]
 }
 
 // The indexes, in which nothing is mapped.
-pub fn big5() -> [u32; BIG5]
+pub fn big5() -> Big5
     ensures { λ r. ⌜ r ≡ unmapped big5Count ⌝ }
 {
     [0; BIG5]
 }
 
-pub fn euckr() -> [u32; EUC_KR]
+pub fn euckr() -> EucKr
     ensures { λ r. ⌜ r ≡ unmapped eucKrCount ⌝ }
 {
     [0; EUC_KR]
 }
 
-pub fn jis() -> [u32; JIS]
+pub fn jis() -> Jis
     ensures { λ r. ⌜ r ≡ unmapped jisCount ⌝ }
 {
     [0; JIS]
 }
 
-pub fn extras() -> [i16; EXTRAS]
+pub fn extras() -> Extras
     ensures { λ r. ⌜ r ≡ extras ⌝ }
 {
     [0; EXTRAS]
 }
 
-pub fn weights() -> [i32; WEIGHTS]
+pub fn weights() -> Weights
     ensures { λ r. ⌜ r ≡ weights ⌝ }
 {
     let mut to = [0i32; WEIGHTS];
