@@ -11,6 +11,8 @@ use Rattle.signed.proofs.of_bits32.Kinds as of-bits32-kinds
 use Rattle.signed.proofs.of_bits32.Reads as of-bits32-reads
 use Rattle.signed.proofs.of_bits64.Kinds as of-bits64-kinds
 use Rattle.signed.proofs.of_bits64.Reads as of-bits64-reads
+use Rattle.signed.proofs.sum.Kinds as sum-kinds
+use Rattle.signed.proofs.sum.Reads as sum-reads
 
 pub size : Determined 0 size-kinds.ps size-kinds.r size-reads.Asked size-reads.Learnt
 size = record { total = λ κs a. tt; one = λ κs a z z′ w w′ p q. (same p q, refl) }
@@ -26,3 +28,6 @@ of-bits32 = record { total = λ κs a. tt; one = λ κs a z z′ w w′ p q. (sa
 
 pub of-bits64 : Determined 0 of-bits64-kinds.ps of-bits64-kinds.r of-bits64-reads.Asked of-bits64-reads.Learnt
 of-bits64 = record { total = λ κs a. tt; one = λ κs a z z′ w w′ p q. (same p q, refl) }
+
+pub sum : Determined 0 sum-kinds.ps sum-kinds.r sum-reads.Asked sum-reads.Learnt
+sum = record { total = λ κs a. tt; one = λ κs a z z′ w w′ p q. (same p q, refl) }

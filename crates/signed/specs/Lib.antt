@@ -1,1 +1,2 @@
 pub mod Negative
+pub mod Sum

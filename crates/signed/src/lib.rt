@@ -3,6 +3,7 @@ ghost use mathlib.Core.Path.{_≡_};
 ghost use lib.IntN.{natAbs};
 ghost use mir.Syntax.{w16, w32, w64};
 ghost use mir.Val.{toZ, ofZ};
+ghost use Rattle.signed.specs.Sum.{sumOf};
 
 // How far a number is from zero.
 pub fn size(z: i64) -> u64
@@ -48,4 +49,11 @@ pub fn of_bits64(n: u64) -> i64
         return n as i64;
     }
     -((0xFFFF_FFFF_FFFF_FFFF - n) as i64) - 1
+}
+
+// The sum in 64 bits of two's complement: where it fits, the sum.
+pub fn sum(a: i64, b: i64) -> i64
+    ensures { λ r. ⌜ r ≡ sumOf a b ⌝ }
+{
+    of_bits64(std::num::wrapping_add_u64(bits(a), bits(b)))
 }
