@@ -1,7 +1,9 @@
 -- The eight machines as one: a byte, a stretch and the end of the stream do to each what its own definition says, over its own
 -- tables.
+use mathlib.Core.Bool.{cond}
 use mathlib.Core.List.{List}
 use Prim.Native.Nat.{ℕ, _≤_}
+use lib.Dec.{eqb}
 use lib.IntN.{ℤ, pos, natAbs}
 use Rattle.laws.specs.Carried.{carried}
 use Rattle.laws.specs.Run.{Outcome, none, live}
@@ -146,6 +148,21 @@ closedOf o (Caseless m) = ofCaseless (caseless.closedOf (lentTo o) m)
 closedOf o (Logical m) = ofLogical (logical.closedOf (lentTo o) m)
 closedOf o (Visual m) = ofVisual (visual.closedOf (lentTo o) m)
 closedOf o (ArabicFrench m) = ofArabicFrench (arabicFrench.closedOf (lentTo o) m)
+
+-- the same, of a machine of the kind that stands at place k; one of another kind is not run
+abbrev pub ranAt : ℕ → Own → Machine → List ℕ → Ran
+ranAt k o m xs = cond (eqb (placeNumber m) k) (ranOf o m xs) Unfit
+
+-- the end of the stream of a machine to which it is no space; of one to which it is, no answer
+abbrev pub decodedEnd : Machine → Ran
+decodedEnd (Utf8 m) = ofUtf8 (utf-8.closedOf m)
+decodedEnd (Iso2022Jp m) = ofIso2022Jp (iso2022jp.closedOf m)
+decodedEnd (EucKr m) = ofEucKr (euckr.closedOf m)
+decodedEnd (Big5 m) = ofBig5 (big5.closedOf m)
+decodedEnd (Caseless m) = Unfit
+decodedEnd (Logical m) = Unfit
+decodedEnd (Visual m) = Unfit
+decodedEnd (ArabicFrench m) = Unfit
 
 -- a live answer's change of the score is at most c in size
 abbrev pub Bounded : ℕ → Ran → Type 0

@@ -1,6 +1,7 @@
 -- A run of one of the eight machines is its own run, and what the code's answers are where the lent lengths, the record and the
 -- stretch are fit.
 use mathlib.Core.Path.{_≡_, refl, sym, ap, _∙_}
+use mathlib.Core.Bool.{Bool, false, cond}
 use mathlib.Core.List.{List}
 use Prim.Native.Nat.{ℕ, _*_, _≤_}
 use native.Mathlib.Omega.{arith}
@@ -57,7 +58,7 @@ use Rattle.utf8.specs.Utf8Laws as utf-8-laws
 use Rattle.utf8.specs.declared.Ran.{Ran as Utf8Ran}
 use Rattle.utf8.specs.declared.Ran.the-variants as utf-8-ran
 use Rattle.utf8.specs.declared.Utf8.{Utf8 as Utf8Record}
-use Rattle.kinds.specs.Kinds.{placeNumber, stepOf, closeOf, ranAs, ofUtf8, ofIso2022Jp, ofEucKr, ofBig5, ofCaseless, ofLogical, ofVisual, ofArabicFrench, ranOf, closedOf, Bounded, WeighedIn, Weighed}
+use Rattle.kinds.specs.Kinds.{placeNumber, stepOf, closeOf, ranAs, ofUtf8, ofIso2022Jp, ofEucKr, ofBig5, ofCaseless, ofLogical, ofVisual, ofArabicFrench, ranOf, closedOf, ranAt, Bounded, WeighedIn, Weighed}
 use Rattle.kinds.specs.Sound.{SoundFor}
 use Rattle.tables.specs.Own.{Own, lentTo, SizedAt}
 use Rattle.kinds.specs.declared.machine.Machine.{Machine}
@@ -188,6 +189,10 @@ module _ (t : Own) where
   closed-fit (Logical m) z o = ap ofLogical (logical-laws.closed-fit (lentTo t) m (record { sized = z; sound = logical-laws.sound-more (2 * limit) room m (omega arith) (o .1 .1); short = omega arith })) ∙ logical-answer _
   closed-fit (Visual m) z o = ap ofVisual (visual-laws.closed-fit (lentTo t) m (record { sized = z; sound = visual-laws.sound-more (2 * limit) room m (omega arith) (o .1); short = omega arith })) ∙ visual-answer _
   closed-fit (ArabicFrench m) z o = ap ofArabicFrench (arabicFrench-laws.closed-fit (lentTo t) m (record { sized = z; sound = arabicFrench-laws.sound-more (2 * limit) room m (omega arith) (o .1); short = omega arith })) ∙ arabicFrench-answer _
+
+-- ---- a machine of another kind than the one that is run alone
+pub unfit-at : (k : ℕ) (o : Own) (m : Machine) (xs : List ℕ) → false ≡ eqb (placeNumber m) k → Unfit ≡ ranAt k o m xs
+unfit-at k o m xs h = ap (λ (b : Bool). cond b (ranOf o m xs) Unfit) h
 
 -- ---- sizes and weights, as each kind's own answer has them
 module _ (c : ℕ) where

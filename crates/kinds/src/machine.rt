@@ -1,10 +1,11 @@
 // One machine of the eight, under its kind: what a stretch of bytes and the end of the stream make of it.
+ghost use mathlib.Core.List.{[]};
 ghost use mathlib.Core.Path.{_≡_};
 ghost use Prim.Native.Nat.{_*_};
 ghost use lib.ListN.{length};
 ghost use Rattle.weights.specs.Weights.{perByte};
 ghost use Rattle.tables.specs.Own.{own};
-ghost use Rattle.kinds.specs.Kinds.{placeNumber, freshOf, ofUtf8, ofIso2022Jp, ofEucKr, ofBig5, ofCaseless, ofLogical, ofVisual, ofArabicFrench, ranOf, closedOf, Bounded, Weighed};
+ghost use Rattle.kinds.specs.Kinds.{placeNumber, freshOf, ofUtf8, ofIso2022Jp, ofEucKr, ofBig5, ofCaseless, ofLogical, ofVisual, ofArabicFrench, ranOf, closedOf, ranAt, decodedEnd, Bounded, Weighed};
 use arabic_french::ArabicFrench;
 use big5;
 use big5::Big5;
@@ -205,6 +206,146 @@ impl Machine {
             Machine::Logical(m) => of_logical(m.close(classes, marks, pairs, weights)),
             Machine::Visual(m) => of_visual(m.close(classes, marks, pairs, weights)),
             Machine::ArabicFrench(m) => of_arabic_french(m.close(classes, marks, pairs, weights)),
+        }
+    }
+
+    // The UTF-8 machine alone; one of another kind is not fit.
+    pub fn run_utf8(self, part: &[u8]) -> Ran
+        ensures { λ r. ⌜ r ≡ ranAt 0 (own [] [] [] [] [] []) self (now (part .entry)) ⌝ }
+        ensures { λ r. ⌜ Bounded (perByte * length (now (part .entry))) r ⌝ }
+        ensures { λ r. ⌜ Weighed self [] r ⌝ }
+    {
+        let Machine::Utf8(m) = self else {
+            return Ran::Unfit;
+        };
+        of_utf8(m.run(part))
+    }
+
+    // The ISO-2022-JP machine alone; one of another kind is not fit.
+    pub fn run_iso2022jp(self, part: &[u8], index: &[u32]) -> Ran
+        ensures { λ r. ⌜ r ≡ ranAt 1 (own [] [] [] (now (index .entry)) [] []) self (now (part .entry)) ⌝ }
+        ensures { λ r. ⌜ Bounded (perByte * length (now (part .entry))) r ⌝ }
+        ensures { λ r. ⌜ Weighed self [] r ⌝ }
+    {
+        let Machine::Iso2022Jp(m) = self else {
+            return Ran::Unfit;
+        };
+        of_iso2022jp(m.run(part, index))
+    }
+
+    // The EUC-KR machine alone; one of another kind is not fit.
+    pub fn run_euckr(self, part: &[u8], index: &[u32], extras: &[i16], weights: &[i32]) -> Ran
+        ensures { λ r. ⌜ r ≡ ranAt 2 (own [] [] [] (now (index .entry)) (now (extras .entry)) (now (weights .entry))) self (now (part .entry)) ⌝ }
+        ensures { λ r. ⌜ Bounded (perByte * length (now (part .entry))) r ⌝ }
+        ensures { λ r. ⌜ Weighed self (now (weights .entry)) r ⌝ }
+    {
+        let Machine::EucKr(m) = self else {
+            return Ran::Unfit;
+        };
+        of_euckr(m.run(part, index, extras, weights))
+    }
+
+    // The Big5 machine alone; one of another kind is not fit.
+    pub fn run_big5(self, part: &[u8], index: &[u32], weights: &[i32]) -> Ran
+        ensures { λ r. ⌜ r ≡ ranAt 3 (own [] [] [] (now (index .entry)) [] (now (weights .entry))) self (now (part .entry)) ⌝ }
+        ensures { λ r. ⌜ Bounded (perByte * length (now (part .entry))) r ⌝ }
+        ensures { λ r. ⌜ Weighed self (now (weights .entry)) r ⌝ }
+    {
+        let Machine::Big5(m) = self else {
+            return Ran::Unfit;
+        };
+        of_big5(m.run(part, index, weights))
+    }
+
+    // The caseless machine alone; one of another kind is not fit.
+    pub fn run_caseless(
+        self,
+        part: &[u8],
+        classes: &[u8],
+        marks: &[u8],
+        pairs: &[i16],
+        weights: &[i32],
+    ) -> Ran
+        ensures { λ r. ⌜ r ≡ ranAt 4 (own (now (classes .entry)) (now (marks .entry)) (now (pairs .entry)) [] [] (now (weights .entry))) self (now (part .entry)) ⌝ }
+        ensures { λ r. ⌜ Bounded (perByte * length (now (part .entry))) r ⌝ }
+        ensures { λ r. ⌜ Weighed self (now (weights .entry)) r ⌝ }
+    {
+        let Machine::Caseless(m) = self else {
+            return Ran::Unfit;
+        };
+        of_caseless(m.run(part, classes, marks, pairs, weights))
+    }
+
+    // The logical machine alone; one of another kind is not fit.
+    pub fn run_logical(
+        self,
+        part: &[u8],
+        classes: &[u8],
+        marks: &[u8],
+        pairs: &[i16],
+        weights: &[i32],
+    ) -> Ran
+        ensures { λ r. ⌜ r ≡ ranAt 5 (own (now (classes .entry)) (now (marks .entry)) (now (pairs .entry)) [] [] (now (weights .entry))) self (now (part .entry)) ⌝ }
+        ensures { λ r. ⌜ Bounded (perByte * length (now (part .entry))) r ⌝ }
+        ensures { λ r. ⌜ Weighed self (now (weights .entry)) r ⌝ }
+    {
+        let Machine::Logical(m) = self else {
+            return Ran::Unfit;
+        };
+        of_logical(m.run(part, classes, marks, pairs, weights))
+    }
+
+    // The visual machine alone; one of another kind is not fit.
+    pub fn run_visual(
+        self,
+        part: &[u8],
+        classes: &[u8],
+        marks: &[u8],
+        pairs: &[i16],
+        weights: &[i32],
+    ) -> Ran
+        ensures { λ r. ⌜ r ≡ ranAt 6 (own (now (classes .entry)) (now (marks .entry)) (now (pairs .entry)) [] [] (now (weights .entry))) self (now (part .entry)) ⌝ }
+        ensures { λ r. ⌜ Bounded (perByte * length (now (part .entry))) r ⌝ }
+        ensures { λ r. ⌜ Weighed self (now (weights .entry)) r ⌝ }
+    {
+        let Machine::Visual(m) = self else {
+            return Ran::Unfit;
+        };
+        of_visual(m.run(part, classes, marks, pairs, weights))
+    }
+
+    // The Arabic-French machine alone; one of another kind is not fit.
+    pub fn run_arabic_french(
+        self,
+        part: &[u8],
+        classes: &[u8],
+        marks: &[u8],
+        pairs: &[i16],
+        weights: &[i32],
+    ) -> Ran
+        ensures { λ r. ⌜ r ≡ ranAt 7 (own (now (classes .entry)) (now (marks .entry)) (now (pairs .entry)) [] [] (now (weights .entry))) self (now (part .entry)) ⌝ }
+        ensures { λ r. ⌜ Bounded (perByte * length (now (part .entry))) r ⌝ }
+        ensures { λ r. ⌜ Weighed self (now (weights .entry)) r ⌝ }
+    {
+        let Machine::ArabicFrench(m) = self else {
+            return Ran::Unfit;
+        };
+        of_arabic_french(m.run(part, classes, marks, pairs, weights))
+    }
+
+    // The end of the stream of a decoder's machine; to the others it is a space, and this is no answer.
+    pub fn close_decoder(self) -> Ran
+        ensures { λ r. ⌜ r ≡ decodedEnd self ⌝ }
+    {
+        match self {
+            Machine::Utf8(m) => of_utf8(m.close()),
+            Machine::Iso2022Jp(m) => of_iso2022jp(m.close()),
+            Machine::EucKr(m) => of_euckr(m.close()),
+            Machine::Big5(m) => of_big5(m.close()),
+            Machine::Caseless(_) => Ran::Unfit,
+            Machine::Logical(_) => Ran::Unfit,
+            Machine::Visual(_) => Ran::Unfit,
+            Machine::ArabicFrench(_) => Ran::Unfit,
         }
     }
 }
