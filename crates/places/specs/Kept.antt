@@ -23,7 +23,3 @@ pub record Ended (t : Own) (p : Place) : Type 0 where
 -- what was fed, each place over its own tables, stays in order
 abbrev pub AllKept : Tables → Bool → List ℕ → List Place → Type 0
 AllKept t last xs ps = EachFrom (λ (k : ℕ) (p : Place). Kept (ownOf t k) last xs p) 0 ps
-
-abbrev pub KeptIf : Bool → Tables → Bool → List ℕ → List Place → Type 0
-KeptIf true t last xs ps = AllKept t last xs ps
-KeptIf false t last xs ps = Unit {0}

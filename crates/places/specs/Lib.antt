@@ -1,3 +1,5 @@
+pub mod Fed
+pub mod FedLaws
 pub mod HeadLaws
 pub mod JoinLaws
 pub mod Kept

@@ -219,7 +219,7 @@ unfolding plus
 plus-holds P s (none d) h = tt
 plus-holds P s (live m g) h = h
 
-bounded-more : (c d : ℕ) (o : Outcome Machine) → c ≤ d → BoundedOut c o → BoundedOut d o
+pub bounded-more : (c d : ℕ) (o : Outcome Machine) → c ≤ d → BoundedOut c o → BoundedOut d o
 bounded-more c d (none x) h q = tt
 bounded-more c d (live m g) h q = omega (arith, q)
 
@@ -258,12 +258,24 @@ module _ (t : Own) where
     pub small : BoundedOut (perByte * more) (closeOf t m)
     pub within : n + more ≤ reachOf m n true
 
+  -- a decoder's end changes no score
+  pub decoder-end : (n : ℕ) (m : Machine) → placeNumber m < 4 → SoundFor n n m → BoundedOut 0 (closeOf t m)
+  unfolding closeOf
+  decoder-end n (Utf8 m) h o = ends-bounded utf-8.Sound Utf8 (utf-8.closeOf m) (utf-8-still m o)
+  decoder-end n (Iso2022Jp m) h o = ends-bounded iso2022jp.Sound Iso2022Jp (iso2022jp.closeOf m) (iso2022jp-still m o)
+  decoder-end n (EucKr m) h o = ends-bounded (λ (x : EucKrRecord). Unit {0}) EucKr (euckr.closeOf m) (either (Ends (λ (x : EucKrRecord). Unit {0}) (pos 0)) (eqb (m .lead) 0) (λ e. (tt, refl)) (λ e. tt))
+  decoder-end n (Big5 m) h o = ends-bounded (λ (x : Big5Record). Unit {0}) Big5 (big5.closeOf m) (either (Ends (λ (x : Big5Record). Unit {0}) (pos 0)) (eqb (m .lead) 0) (λ e. (tt, refl)) (λ e. tt))
+  decoder-end n (Caseless m) h o = absurd (omega (arith, h))
+  decoder-end n (Logical m) h o = absurd (omega (arith, h))
+  decoder-end n (Visual m) h o = absurd (omega (arith, h))
+  decoder-end n (ArabicFrench m) h o = absurd (omega (arith, h))
+
   room : (n : ℕ) (m : Machine) → SoundFor n n m → BoundedOut perByte (closeOf t m) → Room n m
-  unfolding closeOf reachOf
-  room n (Utf8 m) o q = record { more = 0; small = ends-bounded utf-8.Sound Utf8 (utf-8.closeOf m) (utf-8-still m o); within = omega arith }
-  room n (Iso2022Jp m) o q = record { more = 0; small = ends-bounded iso2022jp.Sound Iso2022Jp (iso2022jp.closeOf m) (iso2022jp-still m o); within = omega arith }
-  room n (EucKr m) o q = record { more = 0; small = ends-bounded (λ (x : EucKrRecord). Unit {0}) EucKr (euckr.closeOf m) (either (Ends (λ (x : EucKrRecord). Unit {0}) (pos 0)) (eqb (m .lead) 0) (λ e. (tt, refl)) (λ e. tt)); within = omega arith }
-  room n (Big5 m) o q = record { more = 0; small = ends-bounded (λ (x : Big5Record). Unit {0}) Big5 (big5.closeOf m) (either (Ends (λ (x : Big5Record). Unit {0}) (pos 0)) (eqb (m .lead) 0) (λ e. (tt, refl)) (λ e. tt)); within = omega arith }
+  unfolding reachOf
+  room n (Utf8 m) o q = record { more = 0; small = decoder-end n (Utf8 m) (omega arith) o; within = omega arith }
+  room n (Iso2022Jp m) o q = record { more = 0; small = decoder-end n (Iso2022Jp m) (omega arith) o; within = omega arith }
+  room n (EucKr m) o q = record { more = 0; small = decoder-end n (EucKr m) (omega arith) o; within = omega arith }
+  room n (Big5 m) o q = record { more = 0; small = decoder-end n (Big5 m) (omega arith) o; within = omega arith }
   room n (Caseless m) o q = record { more = 1; small = q; within = omega arith }
   room n (Logical m) o q = record { more = 1; small = q; within = omega arith }
   room n (Visual m) o q = record { more = 1; small = q; within = omega arith }

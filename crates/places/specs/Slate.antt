@@ -1,11 +1,9 @@
 -- All eight places: what a start gives, and what a part of a chunk makes of them.
-use mathlib.Core.Bool.{Bool, true, false, cond, _&&_}
+use mathlib.Core.Bool.{Bool, cond}
 use mathlib.Core.List.{List, [], _∷_}
 use Prim.Native.Nat.{ℕ, suc, _/_, _%_}
-use lib.Dec.{eqb, leb}
+use lib.Dec.{eqb}
 use lib.IntN.{pos}
-use lib.ListN.{length}
-use Rattle.laws.specs.Limit.{limit}
 use Rattle.big5.specs.Scoring as big5
 use Rattle.euckr.specs.Scoring as euckr
 use Rattle.iso2022jp.specs.Iso2022Jp as iso2022jp
@@ -15,14 +13,12 @@ use Rattle.logical.specs.Logical as logical
 use Rattle.visual.specs.Visual as visual
 use Rattle.utf8.specs.Utf8 as utf-8
 use Rattle.tables.specs.Own.{ownOf}
-use Rattle.tables.specs.Tables.{Tables, sizedB}
+use Rattle.tables.specs.Tables.{Tables}
 use Rattle.kinds.specs.declared.machine.Machine.the-variants.{Utf8, Iso2022Jp, EucKr, Big5, Caseless, Logical, Visual, ArabicFrench}
-use Rattle.places.specs.Order.{slateB}
 use Rattle.places.specs.Place.{place, feedOf}
 use Rattle.places.specs.declared.place.Place.{Place}
 use Rattle.places.specs.declared.place.Score.{Score}
 use Rattle.places.specs.declared.place.Score.the-variants.{None, Live}
-use Rattle.places.specs.declared.slate.Slated.{Slated}
 
 -- ---- a start
 -- a place takes part where the bit that is worth `unit` is set; its score starts at 0
@@ -42,14 +38,3 @@ feedFrom t last xs k (p ∷ ps) = feedOf (ownOf t k) last xs p ∷ feedFrom t la
 
 abbrev pub feedAll : Tables → Bool → List ℕ → List Place → List Place
 feedAll t last xs ps = feedFrom t last xs 0 ps
-
--- the part is no longer than a stream, no bound of such a stream excludes a place, the lent lengths are exact
-unfoldable pub feedableB : Tables → List ℕ → List Place → Bool
-feedableB t xs ps = leb (length xs) limit && (slateB limit false true ps && sizedB t)
-
--- fed; or not fit, and as they were
-abbrev pub slated : Bool → List Place → Slated
-slated fit ps = record { fit = fit; places = ps }
-
-unfoldable pub slatedOf : Tables → Bool → List ℕ → List Place → Slated
-slatedOf t last xs ps = cond (feedableB t xs ps) (slated true (feedAll t last xs ps)) (slated false ps)

@@ -32,16 +32,15 @@ use Rattle.tables.specs.TablesLaws.{sized-true, true-sized}
 use Rattle.kinds.specs.declared.machine.Machine.{Machine}
 use Rattle.kinds.specs.declared.machine.Machine.the-variants.{Utf8, Iso2022Jp, EucKr, Big5, Caseless, Logical, Visual, ArabicFrench}
 use Rattle.places.specs.Order.{ScoredFor, ZeroOrNone, FedOr, PlaceFor, SlateFor, slateB}
-use Rattle.places.specs.Kept.{Kept, AllKept, KeptIf}
+use Rattle.places.specs.Kept.{Kept, AllKept}
 use Rattle.places.specs.OrderLaws.{slate-true, true-slate, scored-more}
 use Rattle.places.specs.Place.{place, feedOf}
 use Rattle.places.specs.Steps.{BoundedScore, FitPart}
 use Rattle.places.specs.PlaceLaws.{feed-nil}
-use Rattle.places.specs.Slate.{startOf, feedFrom, feedAll, feedableB, slated, slatedOf}
+use Rattle.places.specs.Slate.{startOf, feedFrom, feedAll}
 use Rattle.places.specs.declared.place.Place.{Place}
 use Rattle.places.specs.declared.place.Score.{Score}
 use Rattle.places.specs.declared.place.Score.the-variants.{None, Live}
-use Rattle.places.specs.declared.slate.Slated.{Slated}
 
 -- ---- a start is in order
 taken-scored : (m : Machine) (t : Bool) → m ≡ freshOf m → ScoredFor 0 m (cond t (Live (pos 0)) None)
@@ -102,38 +101,6 @@ unfed-for n m closed fed k p f o =
 pub slate-unfed : (n m : ℕ) (closed : Bool) (ps : List Place) → m ≤ limit → SlateFor n false false ps → SlateFor m closed false ps
 slate-unfed n m closed ps l o = record { most = l; each = each-weaken (PlaceFor n false false) (PlaceFor m closed false) (λ (k : ℕ) (p : Place) (q : PlaceFor n false false k p). unfed-for n m closed false k p (q .fed-or) q) 0 ps (o .each) }
 
--- ---- fitness
-module _ (t : Tables) (xs : List ℕ) (ps : List Place) where
-  pub record Feedable : Type 0 where
-    pub short : length xs ≤ limit
-    pub slate : SlateFor limit false true ps
-    pub sized : Sized t
-
-  pub feedable-parts : length xs ≤ limit → slateB limit false true ps ≡ true → sizedB t ≡ true → Feedable
-  feedable-parts h o z = record { short = h; slate = slate-true limit false true ps o; sized = sized-true t z }
-
-  -- each way through the code
-  module _ (last : Bool) where
-    pub slated-long : limit < length xs → slated false ps ≡ slatedOf t last xs ps
-    unfolding slatedOf feedableB
-    slated-long h = rw (lt-leb (length xs) limit h)
-
-    pub slated-order : slateB limit false true ps ≡ false → slated false ps ≡ slatedOf t last xs ps
-    unfolding slatedOf feedableB
-    slated-order e = rw (e, and-false)
-
-    pub slated-length : sizedB t ≡ false → slated false ps ≡ slatedOf t last xs ps
-    unfolding slatedOf feedableB
-    slated-length e = rw (e, and-false, and-false)
-
-    pub slated-fed : Feedable → slated true (feedAll t last xs ps) ≡ slatedOf t last xs ps
-    unfolding slatedOf feedableB
-    slated-fed f = rw (le-leb _ _ (f .short), true-slate limit false true ps (f .slate), true-sized t (f .sized))
-
-  -- what a caller that has tested uses
-  pub slated-fit : (last fed : Bool) (n : ℕ) → Sized t → length xs ≤ limit → SlateFor n false fed ps → slatedOf t last xs ps ≡ slated true (feedAll t last xs ps)
-  slated-fit last fed n z h o = sym (slated-fed last (record { short = h; slate = slate-more n limit fed ps (o .most) (omega arith) o; sized = z }))
-
 -- ---- the places after a part are in order
 each-fed : (t : Tables) (last : Bool) (xs : List ℕ) (n : ℕ) → n + length xs ≤ limit → (k : ℕ) (ps : List Place) → EachFrom (λ (j : ℕ) (p : Place). Kept (ownOf t j) last xs p) k ps → EachFrom (PlaceFor n false true) k ps → EachFrom (PlaceFor (n + length xs) last true) k (feedFrom t last xs k ps)
 unfolding feedFrom
@@ -143,10 +110,6 @@ each-fed t last xs n h k (p ∷ ps) f o = (f .0 .kept n k h (o .0), each-fed t l
 pub fed-slate : (t : Tables) (last fed : Bool) (xs : List ℕ) (n : ℕ) (ps : List Place) → n + length xs ≤ limit → AllKept t last xs ps → SlateFor n false fed ps → SlateFor (n + length xs) last true (feedAll t last xs ps)
 fed-slate t last fed xs n ps h f o =
     record { most = h; each = each-fed t last xs n h 0 ps f (slate-more n n fed ps (omega arith) (o .most) o .each) }
-
--- the same of what the code answered
-pub fed-kept : (t : Tables) (last : Bool) (xs : List ℕ) (ps qs : List Place) (r : Slated) → r ≡ slated true qs → KeptIf (r .fit) t last xs ps → AllKept t last xs ps
-fed-kept t last xs ps qs r e h = rw e at h
 
 nil-kept-at : (t : Own) (p : Place) → Kept t false [] p
 nil-kept-at t p = record { kept = λ (n k : ℕ) h o. rw (feed-nil t p, add-zero) o }
@@ -175,18 +138,6 @@ feed-from-at t last xs k (p ∷ ps) d (suc i) h =
 
 pub feed-at : (t : Tables) (last : Bool) (xs : List ℕ) (ps : List Place) (d : Place) (k : ℕ) → k < length ps → getD (feedAll t last xs ps) k d ≡ feedOf (ownOf t k) last xs (getD ps k d)
 feed-at t last xs ps d k h = subst (λ (i : ℕ). getD (feedAll t last xs ps) k d ≡ feedOf (ownOf t i) last xs (getD ps k d)) (zero-add k) (feed-from-at t last xs 0 ps d k h)
-
--- ---- for the code
-score-bounded : (m : Machine) (c : Score) → ScoredFor limit m c → BoundedScore (perByte * limit) c
-score-bounded m None q = tt
-score-bounded m (Live s) q = q
-
--- a place in order and its own tables are fit for a part
-pub fit-place : (t : Tables) (xs : List ℕ) (ps : List Place) (k : ℕ) (d : Place) → Sized t → SlateFor limit false true ps → length xs ≤ limit → length ps ≡ 8 → k < 8 → FitPart (ownOf t k) (getD ps k d) (length xs)
-fit-place t xs ps k d z f h e l =
-    let m = getD ps k d .machine in
-    let o = subst (λ (i : ℕ). PlaceFor limit false true i (getD ps k d)) (zero-add k) (each-get (PlaceFor limit false true) 0 ps d (f .each) k (rw e l)) in
-    record { sized = subst (λ (i : ℕ). SizedAt i (ownOf t k)) (sym (o .kind)) (own-sized t z k l); sound = rw (reach-open m limit) at (o .sound); small = score-bounded m (getD ps k d .score) (rw (reach-open m limit) at (o .scored)); short = h }
 
 -- eight places, one by one
 pub joined : {p q : Place} {ps qs : List Place} → p ≡ q → ps ≡ qs → p ∷ ps ≡ q ∷ qs

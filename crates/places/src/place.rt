@@ -1,12 +1,22 @@
-// One place, and what a part of a chunk makes of it.
+// One place, and what a part of a chunk and the end of the stream make of it.
+//
+// There is a function for each kind, so that a call goes to one machine's loop and to nothing else. A place that can't be fed,
+// since it has no score, or a machine of another kind or one that is not fit, is left fresh and without a score; in a state
+// in order only a place without a score can't, and it is fresh already.
 ghost use mathlib.Core.Path.{_≡_};
-ghost use lib.ListN.{length};
+ghost use mathlib.Core.List.{[]};
 ghost use Rattle.tables.specs.Own.{own};
-ghost use Rattle.places.specs.Kept.{Ended, Kept};
-ghost use Rattle.places.specs.Place.{feedOf};
-ghost use Rattle.places.specs.Steps.{endOf, settledOf, FitEnd, FitPart, FitSum};
+ghost use Rattle.places.specs.Fed.{settledOf, fedAs, decoderEnded, KnownFed};
+use arabic_french::ArabicFrench;
+use big5::Big5;
+use caseless::Caseless;
+use euckr::EucKr;
+use iso2022jp::Iso2022Jp;
 use kinds::machine::Machine;
 use kinds::machine::Ran;
+use logical::Logical;
+use utf8::Utf8;
+use visual::Visual;
 
 pub enum Score {
     None,
@@ -21,79 +31,220 @@ pub struct Place {
 // Eight places, by their numbers: UTF-8, ISO-2022-JP, EUC-KR, Big5, caseless, logical, visual, Arabic-French.
 pub type Slate = [Place; 8];
 
-impl Place {
-    // The score becomes the sum, or none with the machine fresh.
-    fn settled(self, score: i64, ran: Ran) -> Place
-        requires { ⌜ FitSum score ran ⌝ }
-        ensures { λ r. ⌜ r ≡ settledOf self score ran ⌝ }
-    {
-        let machine = self.machine;
-        match ran {
-            Ran::Live(next, change) => Place {
-                machine: next,
-                score: Score::Live(score + change),
-            },
-            Ran::Dropped => Place {
-                machine: machine.fresh(),
-                score: Score::None,
-            },
-            Ran::Unfit => self,
-        }
+// The score becomes the sum, or none with the fresh machine.
+fn settled(fresh: Machine, before: i64, ran: Ran) -> Place
+    ensures { λ r. ⌜ r ≡ settledOf fresh before ran ⌝ }
+{
+    match ran {
+        Ran::Live(next, gain) => Place {
+            machine: next,
+            score: Score::Live(signed::sum(before, gain)),
+        },
+        Ran::Dropped => Place {
+            machine: fresh,
+            score: Score::None,
+        },
+        Ran::Unfit => Place {
+            machine: fresh,
+            score: Score::None,
+        },
     }
+}
 
-    // The end of the stream.
-    fn close(
-        self,
-        classes: &[u8],
-        marks: &[u8],
-        pairs: &[i16],
-        index: &[u32],
-        extras: &[i16],
-        weights: &[i32],
-    ) -> Place
-        requires { ⌜ FitEnd (own (now classes) (now marks) (now pairs) (now index) (now extras) (now weights)) self ⌝ }
-        ensures { λ r. ⌜ r ≡ endOf (own (now (classes .entry)) (now (marks .entry)) (now (pairs .entry)) (now (index .entry)) (now (extras .entry)) (now (weights .entry))) self ⌝ }
-        ensures { λ r. ⌜ Ended (own (now (classes .entry)) (now (marks .entry)) (now (pairs .entry)) (now (index .entry)) (now (extras .entry)) (now (weights .entry))) self ⌝ }
-    {
-        let machine = self.machine;
-        let score = self.score;
-        let Score::Live(before) = score else {
-            return self;
+pub(crate) fn feed_utf8(place: Place, part: &[u8]) -> Place
+    ensures { λ r. ⌜ r ≡ fedAs 0 (own [] [] [] [] [] []) (now (part .entry)) place ⌝ }
+    ensures { λ r. ⌜ KnownFed 0 (own [] [] [] [] [] []) (now (part .entry)) place ⌝ }
+{
+    let machine = place.machine;
+    let score = place.score;
+    let fresh = Machine::Utf8(Utf8::fresh());
+    let Score::Live(before) = score else {
+        return Place {
+            machine: fresh,
+            score: Score::None,
         };
-        self.settled(
-            before,
-            machine.close(classes, marks, pairs, index, extras, weights),
-        )
-    }
+    };
+    settled(fresh, before, machine.run_utf8(part))
+}
 
-    // A part of a chunk, over the place's own tables.
-    pub(crate) fn feed(
-        self,
-        part: &[u8],
-        last: bool,
-        classes: &[u8],
-        marks: &[u8],
-        pairs: &[i16],
-        index: &[u32],
-        extras: &[i16],
-        weights: &[i32],
-    ) -> Place
-        requires { ⌜ FitPart (own (now classes) (now marks) (now pairs) (now index) (now extras) (now weights)) self (length (now part)) ⌝ }
-        ensures { λ r. ⌜ r ≡ feedOf (own (now (classes .entry)) (now (marks .entry)) (now (pairs .entry)) (now (index .entry)) (now (extras .entry)) (now (weights .entry))) last (now (part .entry)) self ⌝ }
-        ensures { λ r. ⌜ Kept (own (now (classes .entry)) (now (marks .entry)) (now (pairs .entry)) (now (index .entry)) (now (extras .entry)) (now (weights .entry))) last (now (part .entry)) self ⌝ }
-    {
-        let machine = self.machine;
-        let score = self.score;
-        let Score::Live(before) = score else {
-            return self;
+pub(crate) fn feed_iso2022jp(place: Place, part: &[u8], index: &[u32]) -> Place
+    ensures { λ r. ⌜ r ≡ fedAs 1 (own [] [] [] (now (index .entry)) [] []) (now (part .entry)) place ⌝ }
+    ensures { λ r. ⌜ KnownFed 1 (own [] [] [] (now (index .entry)) [] []) (now (part .entry)) place ⌝ }
+{
+    let machine = place.machine;
+    let score = place.score;
+    let fresh = Machine::Iso2022Jp(Iso2022Jp::fresh());
+    let Score::Live(before) = score else {
+        return Place {
+            machine: fresh,
+            score: Score::None,
         };
-        let fed = self.settled(
-            before,
-            machine.run(part, classes, marks, pairs, index, extras, weights),
-        );
-        if last {
-            return fed.close(classes, marks, pairs, index, extras, weights);
-        }
-        fed
-    }
+    };
+    settled(fresh, before, machine.run_iso2022jp(part, index))
+}
+
+pub(crate) fn feed_euckr(
+    place: Place,
+    part: &[u8],
+    index: &[u32],
+    extras: &[i16],
+    weights: &[i32],
+) -> Place
+    ensures { λ r. ⌜ r ≡ fedAs 2 (own [] [] [] (now (index .entry)) (now (extras .entry)) (now (weights .entry))) (now (part .entry)) place ⌝ }
+    ensures { λ r. ⌜ KnownFed 2 (own [] [] [] (now (index .entry)) (now (extras .entry)) (now (weights .entry))) (now (part .entry)) place ⌝ }
+{
+    let machine = place.machine;
+    let score = place.score;
+    let fresh = Machine::EucKr(EucKr::fresh());
+    let Score::Live(before) = score else {
+        return Place {
+            machine: fresh,
+            score: Score::None,
+        };
+    };
+    settled(
+        fresh,
+        before,
+        machine.run_euckr(part, index, extras, weights),
+    )
+}
+
+pub(crate) fn feed_big5(place: Place, part: &[u8], index: &[u32], weights: &[i32]) -> Place
+    ensures { λ r. ⌜ r ≡ fedAs 3 (own [] [] [] (now (index .entry)) [] (now (weights .entry))) (now (part .entry)) place ⌝ }
+    ensures { λ r. ⌜ KnownFed 3 (own [] [] [] (now (index .entry)) [] (now (weights .entry))) (now (part .entry)) place ⌝ }
+{
+    let machine = place.machine;
+    let score = place.score;
+    let fresh = Machine::Big5(Big5::fresh());
+    let Score::Live(before) = score else {
+        return Place {
+            machine: fresh,
+            score: Score::None,
+        };
+    };
+    settled(fresh, before, machine.run_big5(part, index, weights))
+}
+
+pub(crate) fn feed_caseless(
+    place: Place,
+    part: &[u8],
+    classes: &[u8],
+    marks: &[u8],
+    pairs: &[i16],
+    weights: &[i32],
+) -> Place
+    ensures { λ r. ⌜ r ≡ fedAs 4 (own (now (classes .entry)) (now (marks .entry)) (now (pairs .entry)) [] [] (now (weights .entry))) (now (part .entry)) place ⌝ }
+    ensures { λ r. ⌜ KnownFed 4 (own (now (classes .entry)) (now (marks .entry)) (now (pairs .entry)) [] [] (now (weights .entry))) (now (part .entry)) place ⌝ }
+{
+    let machine = place.machine;
+    let score = place.score;
+    let fresh = Machine::Caseless(Caseless::fresh());
+    let Score::Live(before) = score else {
+        return Place {
+            machine: fresh,
+            score: Score::None,
+        };
+    };
+    settled(
+        fresh,
+        before,
+        machine.run_caseless(part, classes, marks, pairs, weights),
+    )
+}
+
+pub(crate) fn feed_logical(
+    place: Place,
+    part: &[u8],
+    classes: &[u8],
+    marks: &[u8],
+    pairs: &[i16],
+    weights: &[i32],
+) -> Place
+    ensures { λ r. ⌜ r ≡ fedAs 5 (own (now (classes .entry)) (now (marks .entry)) (now (pairs .entry)) [] [] (now (weights .entry))) (now (part .entry)) place ⌝ }
+    ensures { λ r. ⌜ KnownFed 5 (own (now (classes .entry)) (now (marks .entry)) (now (pairs .entry)) [] [] (now (weights .entry))) (now (part .entry)) place ⌝ }
+{
+    let machine = place.machine;
+    let score = place.score;
+    let fresh = Machine::Logical(Logical::fresh());
+    let Score::Live(before) = score else {
+        return Place {
+            machine: fresh,
+            score: Score::None,
+        };
+    };
+    settled(
+        fresh,
+        before,
+        machine.run_logical(part, classes, marks, pairs, weights),
+    )
+}
+
+pub(crate) fn feed_visual(
+    place: Place,
+    part: &[u8],
+    classes: &[u8],
+    marks: &[u8],
+    pairs: &[i16],
+    weights: &[i32],
+) -> Place
+    ensures { λ r. ⌜ r ≡ fedAs 6 (own (now (classes .entry)) (now (marks .entry)) (now (pairs .entry)) [] [] (now (weights .entry))) (now (part .entry)) place ⌝ }
+    ensures { λ r. ⌜ KnownFed 6 (own (now (classes .entry)) (now (marks .entry)) (now (pairs .entry)) [] [] (now (weights .entry))) (now (part .entry)) place ⌝ }
+{
+    let machine = place.machine;
+    let score = place.score;
+    let fresh = Machine::Visual(Visual::fresh());
+    let Score::Live(before) = score else {
+        return Place {
+            machine: fresh,
+            score: Score::None,
+        };
+    };
+    settled(
+        fresh,
+        before,
+        machine.run_visual(part, classes, marks, pairs, weights),
+    )
+}
+
+pub(crate) fn feed_arabic_french(
+    place: Place,
+    part: &[u8],
+    classes: &[u8],
+    marks: &[u8],
+    pairs: &[i16],
+    weights: &[i32],
+) -> Place
+    ensures { λ r. ⌜ r ≡ fedAs 7 (own (now (classes .entry)) (now (marks .entry)) (now (pairs .entry)) [] [] (now (weights .entry))) (now (part .entry)) place ⌝ }
+    ensures { λ r. ⌜ KnownFed 7 (own (now (classes .entry)) (now (marks .entry)) (now (pairs .entry)) [] [] (now (weights .entry))) (now (part .entry)) place ⌝ }
+{
+    let machine = place.machine;
+    let score = place.score;
+    let fresh = Machine::ArabicFrench(ArabicFrench::fresh());
+    let Score::Live(before) = score else {
+        return Place {
+            machine: fresh,
+            score: Score::None,
+        };
+    };
+    settled(
+        fresh,
+        before,
+        machine.run_arabic_french(part, classes, marks, pairs, weights),
+    )
+}
+
+// The end of the stream to a decoder's place.
+pub(crate) fn end_decoder(place: Place) -> Place
+    ensures { λ r. ⌜ r ≡ decoderEnded place ⌝ }
+{
+    let machine = place.machine;
+    let score = place.score;
+    let fresh = machine.fresh();
+    let Score::Live(before) = score else {
+        return Place {
+            machine: fresh,
+            score: Score::None,
+        };
+    };
+    settled(fresh, before, machine.close_decoder())
 }

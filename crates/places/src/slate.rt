@@ -1,15 +1,11 @@
 // All eight places.
 ghost use mathlib.Core.Path.{_≡_};
-ghost use Rattle.tables.specs.Tables.{tables, Sized};
-ghost use lib.ListN.{length};
-ghost use Prim.Native.Nat.{_<_, _≤_};
-ghost use mathlib.Core.Bool.{true, false};
-ghost use Rattle.laws.specs.Limit.{limit};
-ghost use Rattle.places.specs.Order.{SlateFor};
+ghost use Rattle.tables.specs.Tables.{tables};
+ghost use Prim.Native.Nat.{_<_};
 ghost use Rattle.places.specs.Place.{place};
-ghost use Rattle.places.specs.Slate.{takenOf, startOf, feedAll, slatedOf};
-ghost use Rattle.places.specs.Kept.{AllKept, KeptIf};
-use crate::order;
+ghost use Rattle.places.specs.Slate.{takenOf, startOf};
+ghost use Rattle.places.specs.Fed.{fedEach, endedEach, slateFed, AllKnown, EndKnown, SlateKnown};
+use crate::place;
 use crate::place::Place;
 use crate::place::Score;
 use crate::place::Slate;
@@ -20,17 +16,10 @@ use euckr::EucKr;
 use iso2022jp::Iso2022Jp;
 use kinds::machine::Machine;
 use logical::Logical;
-use tables;
 use utf8::Utf8;
 use visual::Visual;
 
 pub const PLACES: usize = 8;
-
-// The places after a part of a chunk; or one of them, a lent length or the part was not fit, and they are as they were.
-pub struct Slated {
-    pub fit: bool,
-    pub places: Slate,
-}
 
 // The score of a place that takes part, or does not: its bit is worth `unit`.
 fn taken(bits: u8, unit: u8) -> Score
@@ -69,11 +58,10 @@ pub fn start(bits: u8) -> Slate
     ]
 }
 
-// Each place over its own tables; those that it does not have are empty.
+// Each place over its own tables.
 fn feed_each(
     places: Slate,
     part: &[u8],
-    last: bool,
     classes4: &[u8],
     marks4: &[u8],
     pairs4: &[i16],
@@ -92,33 +80,132 @@ fn feed_each(
     extras: &[i16],
     weights: &[i32],
 ) -> Slate
-    requires { ⌜ Sized (tables (now classes4) (now marks4) (now pairs4) (now classes5) (now marks5) (now pairs5) (now classes6) (now marks6) (now pairs6) (now classes7) (now marks7) (now pairs7) (now big5) (now euckr) (now jis) (now extras) (now weights)) ⌝ }
-    requires { ⌜ SlateFor limit false true places ⌝ }
-    requires { ⌜ length (now part) ≤ limit ⌝ }
-    ensures { λ r. ⌜ r ≡ feedAll (tables (now (classes4 .entry)) (now (marks4 .entry)) (now (pairs4 .entry)) (now (classes5 .entry)) (now (marks5 .entry)) (now (pairs5 .entry)) (now (classes6 .entry)) (now (marks6 .entry)) (now (pairs6 .entry)) (now (classes7 .entry)) (now (marks7 .entry)) (now (pairs7 .entry)) (now (big5 .entry)) (now (euckr .entry)) (now (jis .entry)) (now (extras .entry)) (now (weights .entry))) last (now (part .entry)) places ⌝ }
-    ensures { λ r. ⌜ AllKept (tables (now (classes4 .entry)) (now (marks4 .entry)) (now (pairs4 .entry)) (now (classes5 .entry)) (now (marks5 .entry)) (now (pairs5 .entry)) (now (classes6 .entry)) (now (marks6 .entry)) (now (pairs6 .entry)) (now (classes7 .entry)) (now (marks7 .entry)) (now (pairs7 .entry)) (now (big5 .entry)) (now (euckr .entry)) (now (jis .entry)) (now (extras .entry)) (now (weights .entry))) last (now (part .entry)) places ⌝ }
+    ensures { λ r. ⌜ r ≡ fedEach (tables (now (classes4 .entry)) (now (marks4 .entry)) (now (pairs4 .entry)) (now (classes5 .entry)) (now (marks5 .entry)) (now (pairs5 .entry)) (now (classes6 .entry)) (now (marks6 .entry)) (now (pairs6 .entry)) (now (classes7 .entry)) (now (marks7 .entry)) (now (pairs7 .entry)) (now (big5 .entry)) (now (euckr .entry)) (now (jis .entry)) (now (extras .entry)) (now (weights .entry))) (now (part .entry)) places ⌝ }
+    ensures { λ r. ⌜ AllKnown (tables (now (classes4 .entry)) (now (marks4 .entry)) (now (pairs4 .entry)) (now (classes5 .entry)) (now (marks5 .entry)) (now (pairs5 .entry)) (now (classes6 .entry)) (now (marks6 .entry)) (now (pairs6 .entry)) (now (classes7 .entry)) (now (marks7 .entry)) (now (pairs7 .entry)) (now (big5 .entry)) (now (euckr .entry)) (now (jis .entry)) (now (extras .entry)) (now (weights .entry))) (now (part .entry)) places ⌝ }
 {
-    let utf8 = places[0];
-    let iso2022jp = places[1];
-    let korean = places[2];
-    let chinese = places[3];
-    let caseless = places[4];
-    let logical = places[5];
-    let visual = places[6];
-    let arabic = places[7];
-    let bytes = &classes4[..0];
-    let scores = &pairs4[..0];
-    let index = &big5[..0];
-    let terms = &weights[..0];
     [
-        utf8.feed(part, last, bytes, bytes, scores, index, scores, terms),
-        iso2022jp.feed(part, last, bytes, bytes, scores, jis, scores, terms),
-        korean.feed(part, last, bytes, bytes, scores, euckr, extras, weights),
-        chinese.feed(part, last, bytes, bytes, scores, big5, scores, weights),
-        caseless.feed(part, last, classes4, marks4, pairs4, index, scores, weights),
-        logical.feed(part, last, classes5, marks5, pairs5, index, scores, weights),
-        visual.feed(part, last, classes6, marks6, pairs6, index, scores, weights),
-        arabic.feed(part, last, classes7, marks7, pairs7, index, scores, weights),
+        place::feed_utf8(places[0], part),
+        place::feed_iso2022jp(places[1], part, jis),
+        place::feed_euckr(places[2], part, euckr, extras, weights),
+        place::feed_big5(places[3], part, big5, weights),
+        place::feed_caseless(places[4], part, classes4, marks4, pairs4, weights),
+        place::feed_logical(places[5], part, classes5, marks5, pairs5, weights),
+        place::feed_visual(places[6], part, classes6, marks6, pairs6, weights),
+        place::feed_arabic_french(places[7], part, classes7, marks7, pairs7, weights),
+    ]
+}
+
+// Two parts, one after the other.
+fn feed_both(
+    places: Slate,
+    before: &[u8],
+    part: &[u8],
+    classes4: &[u8],
+    marks4: &[u8],
+    pairs4: &[i16],
+    classes5: &[u8],
+    marks5: &[u8],
+    pairs5: &[i16],
+    classes6: &[u8],
+    marks6: &[u8],
+    pairs6: &[i16],
+    classes7: &[u8],
+    marks7: &[u8],
+    pairs7: &[i16],
+    big5: &[u32],
+    euckr: &[u32],
+    jis: &[u32],
+    extras: &[i16],
+    weights: &[i32],
+) -> Slate
+    ensures { λ r. ⌜ r ≡ fedEach (tables (now (classes4 .entry)) (now (marks4 .entry)) (now (pairs4 .entry)) (now (classes5 .entry)) (now (marks5 .entry)) (now (pairs5 .entry)) (now (classes6 .entry)) (now (marks6 .entry)) (now (pairs6 .entry)) (now (classes7 .entry)) (now (marks7 .entry)) (now (pairs7 .entry)) (now (big5 .entry)) (now (euckr .entry)) (now (jis .entry)) (now (extras .entry)) (now (weights .entry))) (now (part .entry)) (fedEach (tables (now (classes4 .entry)) (now (marks4 .entry)) (now (pairs4 .entry)) (now (classes5 .entry)) (now (marks5 .entry)) (now (pairs5 .entry)) (now (classes6 .entry)) (now (marks6 .entry)) (now (pairs6 .entry)) (now (classes7 .entry)) (now (marks7 .entry)) (now (pairs7 .entry)) (now (big5 .entry)) (now (euckr .entry)) (now (jis .entry)) (now (extras .entry)) (now (weights .entry))) (now (before .entry)) places) ⌝ }
+    ensures { λ r. ⌜ AllKnown (tables (now (classes4 .entry)) (now (marks4 .entry)) (now (pairs4 .entry)) (now (classes5 .entry)) (now (marks5 .entry)) (now (pairs5 .entry)) (now (classes6 .entry)) (now (marks6 .entry)) (now (pairs6 .entry)) (now (classes7 .entry)) (now (marks7 .entry)) (now (pairs7 .entry)) (now (big5 .entry)) (now (euckr .entry)) (now (jis .entry)) (now (extras .entry)) (now (weights .entry))) (now (before .entry)) places ⌝ }
+    ensures { λ r. ⌜ AllKnown (tables (now (classes4 .entry)) (now (marks4 .entry)) (now (pairs4 .entry)) (now (classes5 .entry)) (now (marks5 .entry)) (now (pairs5 .entry)) (now (classes6 .entry)) (now (marks6 .entry)) (now (pairs6 .entry)) (now (classes7 .entry)) (now (marks7 .entry)) (now (pairs7 .entry)) (now (big5 .entry)) (now (euckr .entry)) (now (jis .entry)) (now (extras .entry)) (now (weights .entry))) (now (part .entry)) (fedEach (tables (now (classes4 .entry)) (now (marks4 .entry)) (now (pairs4 .entry)) (now (classes5 .entry)) (now (marks5 .entry)) (now (pairs5 .entry)) (now (classes6 .entry)) (now (marks6 .entry)) (now (pairs6 .entry)) (now (classes7 .entry)) (now (marks7 .entry)) (now (pairs7 .entry)) (now (big5 .entry)) (now (euckr .entry)) (now (jis .entry)) (now (extras .entry)) (now (weights .entry))) (now (before .entry)) places) ⌝ }
+{
+    [
+        place::feed_utf8(place::feed_utf8(places[0], before), part),
+        place::feed_iso2022jp(place::feed_iso2022jp(places[1], before, jis), part, jis),
+        place::feed_euckr(
+            place::feed_euckr(places[2], before, euckr, extras, weights),
+            part,
+            euckr,
+            extras,
+            weights,
+        ),
+        place::feed_big5(
+            place::feed_big5(places[3], before, big5, weights),
+            part,
+            big5,
+            weights,
+        ),
+        place::feed_caseless(
+            place::feed_caseless(places[4], before, classes4, marks4, pairs4, weights),
+            part,
+            classes4,
+            marks4,
+            pairs4,
+            weights,
+        ),
+        place::feed_logical(
+            place::feed_logical(places[5], before, classes5, marks5, pairs5, weights),
+            part,
+            classes5,
+            marks5,
+            pairs5,
+            weights,
+        ),
+        place::feed_visual(
+            place::feed_visual(places[6], before, classes6, marks6, pairs6, weights),
+            part,
+            classes6,
+            marks6,
+            pairs6,
+            weights,
+        ),
+        place::feed_arabic_french(
+            place::feed_arabic_french(places[7], before, classes7, marks7, pairs7, weights),
+            part,
+            classes7,
+            marks7,
+            pairs7,
+            weights,
+        ),
+    ]
+}
+
+// The end of the stream: to the single-byte machines it is a space.
+fn end_each(
+    places: Slate,
+    classes4: &[u8],
+    marks4: &[u8],
+    pairs4: &[i16],
+    classes5: &[u8],
+    marks5: &[u8],
+    pairs5: &[i16],
+    classes6: &[u8],
+    marks6: &[u8],
+    pairs6: &[i16],
+    classes7: &[u8],
+    marks7: &[u8],
+    pairs7: &[i16],
+    big5: &[u32],
+    euckr: &[u32],
+    jis: &[u32],
+    extras: &[i16],
+    weights: &[i32],
+) -> Slate
+    ensures { λ r. ⌜ r ≡ endedEach (tables (now (classes4 .entry)) (now (marks4 .entry)) (now (pairs4 .entry)) (now (classes5 .entry)) (now (marks5 .entry)) (now (pairs5 .entry)) (now (classes6 .entry)) (now (marks6 .entry)) (now (pairs6 .entry)) (now (classes7 .entry)) (now (marks7 .entry)) (now (pairs7 .entry)) (now (big5 .entry)) (now (euckr .entry)) (now (jis .entry)) (now (extras .entry)) (now (weights .entry))) places ⌝ }
+    ensures { λ r. ⌜ EndKnown (tables (now (classes4 .entry)) (now (marks4 .entry)) (now (pairs4 .entry)) (now (classes5 .entry)) (now (marks5 .entry)) (now (pairs5 .entry)) (now (classes6 .entry)) (now (marks6 .entry)) (now (pairs6 .entry)) (now (classes7 .entry)) (now (marks7 .entry)) (now (pairs7 .entry)) (now (big5 .entry)) (now (euckr .entry)) (now (jis .entry)) (now (extras .entry)) (now (weights .entry))) places ⌝ }
+{
+    [
+        place::end_decoder(places[0]),
+        place::end_decoder(places[1]),
+        place::end_decoder(places[2]),
+        place::end_decoder(places[3]),
+        place::feed_caseless(places[4], b" ", classes4, marks4, pairs4, weights),
+        place::feed_logical(places[5], b" ", classes5, marks5, pairs5, weights),
+        place::feed_visual(places[6], b" ", classes6, marks6, pairs6, weights),
+        place::feed_arabic_french(places[7], b" ", classes7, marks7, pairs7, weights),
     ]
 }
 
@@ -144,17 +231,13 @@ pub fn feed(
     jis: &[u32],
     extras: &[i16],
     weights: &[i32],
-) -> Slated
-    ensures { λ r. ⌜ r ≡ slatedOf (tables (now (classes4 .entry)) (now (marks4 .entry)) (now (pairs4 .entry)) (now (classes5 .entry)) (now (marks5 .entry)) (now (pairs5 .entry)) (now (classes6 .entry)) (now (marks6 .entry)) (now (pairs6 .entry)) (now (classes7 .entry)) (now (marks7 .entry)) (now (pairs7 .entry)) (now (big5 .entry)) (now (euckr .entry)) (now (jis .entry)) (now (extras .entry)) (now (weights .entry))) last (now (part .entry)) places ⌝ }
-    ensures { λ r. ⌜ KeptIf (r .fit) (tables (now (classes4 .entry)) (now (marks4 .entry)) (now (pairs4 .entry)) (now (classes5 .entry)) (now (marks5 .entry)) (now (pairs5 .entry)) (now (classes6 .entry)) (now (marks6 .entry)) (now (pairs6 .entry)) (now (classes7 .entry)) (now (marks7 .entry)) (now (pairs7 .entry)) (now (big5 .entry)) (now (euckr .entry)) (now (jis .entry)) (now (extras .entry)) (now (weights .entry))) last (now (part .entry)) places ⌝ }
+) -> Slate
+    ensures { λ r. ⌜ r ≡ slateFed (tables (now (classes4 .entry)) (now (marks4 .entry)) (now (pairs4 .entry)) (now (classes5 .entry)) (now (marks5 .entry)) (now (pairs5 .entry)) (now (classes6 .entry)) (now (marks6 .entry)) (now (pairs6 .entry)) (now (classes7 .entry)) (now (marks7 .entry)) (now (pairs7 .entry)) (now (big5 .entry)) (now (euckr .entry)) (now (jis .entry)) (now (extras .entry)) (now (weights .entry))) last (now (part .entry)) places ⌝ }
+    ensures { λ r. ⌜ SlateKnown (tables (now (classes4 .entry)) (now (marks4 .entry)) (now (pairs4 .entry)) (now (classes5 .entry)) (now (marks5 .entry)) (now (pairs5 .entry)) (now (classes6 .entry)) (now (marks6 .entry)) (now (pairs6 .entry)) (now (classes7 .entry)) (now (marks7 .entry)) (now (pairs7 .entry)) (now (big5 .entry)) (now (euckr .entry)) (now (jis .entry)) (now (extras .entry)) (now (weights .entry))) last (now (part .entry)) places ⌝ }
 {
-    if lengths::MOST < part.len() {
-        return Slated { fit: false, places };
-    }
-    if !order::are_in_order(places, lengths::LIMIT, false, true) {
-        return Slated { fit: false, places };
-    }
-    if !tables::are_sized(
+    let fed = feed_each(
+        places,
+        part,
         classes4,
         marks4,
         pairs4,
@@ -172,15 +255,10 @@ pub fn feed(
         jis,
         extras,
         weights,
-    ) {
-        return Slated { fit: false, places };
-    }
-    Slated {
-        fit: true,
-        places: feed_each(
-            places,
-            part,
-            last,
+    );
+    if last {
+        return end_each(
+            fed,
             classes4,
             marks4,
             pairs4,
@@ -198,6 +276,81 @@ pub fn feed(
             jis,
             extras,
             weights,
-        ),
+        );
     }
+    fed
+}
+
+// A few bytes, and then a part of a chunk.
+pub fn feed_after(
+    places: Slate,
+    before: &[u8],
+    part: &[u8],
+    last: bool,
+    classes4: &[u8],
+    marks4: &[u8],
+    pairs4: &[i16],
+    classes5: &[u8],
+    marks5: &[u8],
+    pairs5: &[i16],
+    classes6: &[u8],
+    marks6: &[u8],
+    pairs6: &[i16],
+    classes7: &[u8],
+    marks7: &[u8],
+    pairs7: &[i16],
+    big5: &[u32],
+    euckr: &[u32],
+    jis: &[u32],
+    extras: &[i16],
+    weights: &[i32],
+) -> Slate
+    ensures { λ r. ⌜ r ≡ slateFed (tables (now (classes4 .entry)) (now (marks4 .entry)) (now (pairs4 .entry)) (now (classes5 .entry)) (now (marks5 .entry)) (now (pairs5 .entry)) (now (classes6 .entry)) (now (marks6 .entry)) (now (pairs6 .entry)) (now (classes7 .entry)) (now (marks7 .entry)) (now (pairs7 .entry)) (now (big5 .entry)) (now (euckr .entry)) (now (jis .entry)) (now (extras .entry)) (now (weights .entry))) last (now (part .entry)) (fedEach (tables (now (classes4 .entry)) (now (marks4 .entry)) (now (pairs4 .entry)) (now (classes5 .entry)) (now (marks5 .entry)) (now (pairs5 .entry)) (now (classes6 .entry)) (now (marks6 .entry)) (now (pairs6 .entry)) (now (classes7 .entry)) (now (marks7 .entry)) (now (pairs7 .entry)) (now (big5 .entry)) (now (euckr .entry)) (now (jis .entry)) (now (extras .entry)) (now (weights .entry))) (now (before .entry)) places) ⌝ }
+    ensures { λ r. ⌜ (AllKnown (tables (now (classes4 .entry)) (now (marks4 .entry)) (now (pairs4 .entry)) (now (classes5 .entry)) (now (marks5 .entry)) (now (pairs5 .entry)) (now (classes6 .entry)) (now (marks6 .entry)) (now (pairs6 .entry)) (now (classes7 .entry)) (now (marks7 .entry)) (now (pairs7 .entry)) (now (big5 .entry)) (now (euckr .entry)) (now (jis .entry)) (now (extras .entry)) (now (weights .entry))) (now (before .entry)) places) × SlateKnown (tables (now (classes4 .entry)) (now (marks4 .entry)) (now (pairs4 .entry)) (now (classes5 .entry)) (now (marks5 .entry)) (now (pairs5 .entry)) (now (classes6 .entry)) (now (marks6 .entry)) (now (pairs6 .entry)) (now (classes7 .entry)) (now (marks7 .entry)) (now (pairs7 .entry)) (now (big5 .entry)) (now (euckr .entry)) (now (jis .entry)) (now (extras .entry)) (now (weights .entry))) last (now (part .entry)) (fedEach (tables (now (classes4 .entry)) (now (marks4 .entry)) (now (pairs4 .entry)) (now (classes5 .entry)) (now (marks5 .entry)) (now (pairs5 .entry)) (now (classes6 .entry)) (now (marks6 .entry)) (now (pairs6 .entry)) (now (classes7 .entry)) (now (marks7 .entry)) (now (pairs7 .entry)) (now (big5 .entry)) (now (euckr .entry)) (now (jis .entry)) (now (extras .entry)) (now (weights .entry))) (now (before .entry)) places) ⌝ }
+{
+    let fed = feed_both(
+        places,
+        before,
+        part,
+        classes4,
+        marks4,
+        pairs4,
+        classes5,
+        marks5,
+        pairs5,
+        classes6,
+        marks6,
+        pairs6,
+        classes7,
+        marks7,
+        pairs7,
+        big5,
+        euckr,
+        jis,
+        extras,
+        weights,
+    );
+    if last {
+        return end_each(
+            fed,
+            classes4,
+            marks4,
+            pairs4,
+            classes5,
+            marks5,
+            pairs5,
+            classes6,
+            marks6,
+            pairs6,
+            classes7,
+            marks7,
+            pairs7,
+            big5,
+            euckr,
+            jis,
+            extras,
+            weights,
+        );
+    }
+    fed
 }

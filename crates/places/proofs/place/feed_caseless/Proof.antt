@@ -1,0 +1,44 @@
+-- `feed_caseless` meets its contract.
+use mathlib.Core.Path.{ap}
+use mathlib.Core.List.{[]}
+use mir.Syntax.{w64}
+use Rattle.laws.specs.Sizes.{thru}
+use Rattle.tables.specs.Own.{Own, own}
+use Rattle.kinds.specs.declared.machine.Machine.the-variants.{Caseless}
+use Rattle.places.specs.FedLaws.{way-none, way-live}
+use borrow.Author.Needs.{needs}
+use Rattle.places.proofs.place.feed_caseless.Statement.{statement}
+use Rattle.places.proofs.place.feed_caseless.Tie as tie
+
+abbrev lent : tie.Start → Own
+lent s = own (s .args .classes .now) (s .args .marks .now) (s .args .pairs .now) [] [] (s .args .weights .now)
+
+fresh-requires : tie.Need-fresh-requires
+fresh-requires c κs = search needs
+
+enum-known-score : tie.Need-enum-known-score
+enum-known-score c = search needs
+
+enum-told : tie.Need-enum-told
+enum-told c = search needs
+
+returns : tie.Need-returns
+returns c =
+    let s = c .before .before .before .before .before .before in
+    way-none 4 (lent s) (s .args .part .now) (s .args .place) (Caseless (c .before .before .fresh .result)) (ap Caseless (c .before .before .fresh .ensures)) (c .enum-told .given .1)
+
+run-caseless-requires : tie.Need-run-caseless-requires
+run-caseless-requires c κs = search needs
+
+settled-requires : tie.Need-settled-requires
+settled-requires c κs = search needs
+
+returns-2 : tie.Need-returns-2
+returns-2 c =
+    let s = c .before .before .before .before .before .before .before .before .before in
+    let z = c .before .before .before .score .given .0 .0 in
+    let fresh = c .before .before .before .before .before .fresh in
+    way-live 4 (lent s) (s .args .part .now) (s .args .place) (Caseless (fresh .result)) (ap Caseless (fresh .ensures)) z (c .before .before .before .score .given .1) (c .before .run-caseless .result) (c .settled .result) (c .before .run-caseless .ensures .0) (c .before .run-caseless .ensures .1 .0) (c .before .run-caseless .ensures .1 .1) (rw (thru w64 z (search needs)) at (c .settled .ensures))
+
+pub feed-caseless-spec : {M : Type 1} → statement M
+feed-caseless-spec = tie.close (tie.spec fresh-requires enum-known-score enum-told returns run-caseless-requires settled-requires returns-2)

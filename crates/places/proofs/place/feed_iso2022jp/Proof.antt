@@ -1,0 +1,44 @@
+-- `feed_iso2022jp` meets its contract.
+use mathlib.Core.Path.{ap}
+use mathlib.Core.List.{[]}
+use mir.Syntax.{w64}
+use Rattle.laws.specs.Sizes.{thru}
+use Rattle.tables.specs.Own.{Own, own}
+use Rattle.kinds.specs.declared.machine.Machine.the-variants.{Iso2022Jp}
+use Rattle.places.specs.FedLaws.{way-none, way-live}
+use borrow.Author.Needs.{needs}
+use Rattle.places.proofs.place.feed_iso2022jp.Statement.{statement}
+use Rattle.places.proofs.place.feed_iso2022jp.Tie as tie
+
+abbrev lent : tie.Start → Own
+lent s = own [] [] [] (s .args .index .now) [] []
+
+fresh-requires : tie.Need-fresh-requires
+fresh-requires c κs = search needs
+
+enum-known-score : tie.Need-enum-known-score
+enum-known-score c = search needs
+
+enum-told : tie.Need-enum-told
+enum-told c = search needs
+
+returns : tie.Need-returns
+returns c =
+    let s = c .before .before .before .before .before in
+    way-none 1 (lent s) (s .args .part .now) (s .args .place) (Iso2022Jp (c .before .before .fresh .result)) (ap Iso2022Jp (c .before .before .fresh .ensures)) (c .enum-told .given .1)
+
+run-iso2022jp-requires : tie.Need-run-iso2022jp-requires
+run-iso2022jp-requires c κs = search needs
+
+settled-requires : tie.Need-settled-requires
+settled-requires c κs = search needs
+
+returns-2 : tie.Need-returns-2
+returns-2 c =
+    let s = c .before .before .before .before .before .before .before .before in
+    let z = c .before .before .before .score .given .0 .0 in
+    let fresh = c .before .before .before .before .before .fresh in
+    way-live 1 (lent s) (s .args .part .now) (s .args .place) (Iso2022Jp (fresh .result)) (ap Iso2022Jp (fresh .ensures)) z (c .before .before .before .score .given .1) (c .before .run-iso2022jp .result) (c .settled .result) (c .before .run-iso2022jp .ensures .0) (c .before .run-iso2022jp .ensures .1 .0) (c .before .run-iso2022jp .ensures .1 .1) (rw (thru w64 z (search needs)) at (c .settled .ensures))
+
+pub feed-iso2022jp-spec : {M : Type 1} → statement M
+feed-iso2022jp-spec = tie.close (tie.spec fresh-requires enum-known-score enum-told returns run-iso2022jp-requires settled-requires returns-2)

@@ -1,0 +1,108 @@
+-- What the code makes of places that may hold anything: each place's machine is asked, and its answer settles the place. In a
+-- state in order it is what `feedAll` says (FedLaws).
+use mathlib.Core.Bool.{Bool, true, false, cond}
+use mathlib.Core.List.{List, [], _∷_}
+use Prim.Native.Nat.{ℕ, suc, _*_, _≤_}
+use lib.Dec.{ltb}
+use lib.IntN.{ℤ}
+use lib.ListN.{length, getD}
+use Rattle.laws.specs.Each.{EachFrom}
+use Rattle.signed.specs.Sum.{sumOf}
+use Rattle.single.specs.Class.{space}
+use Rattle.weights.specs.Weights.{perByte}
+use Rattle.big5.specs.Scoring as big5
+use Rattle.euckr.specs.Scoring as euckr
+use Rattle.iso2022jp.specs.Iso2022Jp as iso2022jp
+use Rattle.arabic_french.specs.ArabicFrench as arabicFrench
+use Rattle.caseless.specs.Caseless as caseless
+use Rattle.logical.specs.Logical as logical
+use Rattle.visual.specs.Visual as visual
+use Rattle.utf8.specs.Utf8 as utf-8
+use Rattle.kinds.specs.Kinds.{freshOf, ranAt, decodedEnd, Bounded, Weighed}
+use Rattle.tables.specs.Own.{Own, ownOf}
+use Rattle.tables.specs.Tables.{Tables}
+use Rattle.kinds.specs.declared.machine.Machine.{Machine}
+use Rattle.kinds.specs.declared.machine.Machine.the-variants.{Utf8, Iso2022Jp, EucKr, Big5, Caseless, Logical, Visual, ArabicFrench}
+use Rattle.kinds.specs.declared.machine.Ran.{Ran}
+use Rattle.kinds.specs.declared.machine.Ran.the-variants as ran
+use Rattle.places.specs.Place.{place}
+use Rattle.places.specs.declared.place.Place.{Place}
+use Rattle.places.specs.declared.place.Score.{Score}
+use Rattle.places.specs.declared.place.Score.the-variants.{None, Live}
+
+-- ---- one place
+-- the fresh machine of each place's kind
+abbrev pub freshes : List Machine
+freshes =
+    Utf8 utf-8.fresh ∷ Iso2022Jp iso2022jp.fresh ∷ EucKr euckr.fresh ∷ Big5 big5.fresh ∷ Caseless caseless.fresh ∷ Logical logical.fresh ∷ Visual visual.fresh ∷ ArabicFrench arabicFrench.fresh ∷ []
+
+abbrev pub freshAt : ℕ → Machine
+freshAt k = getD freshes k (Utf8 utf-8.fresh)
+
+-- the sum, in the 64 bits of a score; or none, and the fresh machine
+unfoldable pub settledOf : Machine → ℤ → Ran → Place
+settledOf fresh s (ran.Live n g) = place n (Live (sumOf s g))
+settledOf fresh s ran.Dropped = place fresh None
+settledOf fresh s ran.Unfit = place fresh None
+
+-- without a score nothing is asked
+unfoldable pub settledFrom : Machine → Ran → Score → Place
+settledFrom fresh r None = place fresh None
+settledFrom fresh r (Live s) = settledOf fresh s r
+
+-- a part of a chunk to place k
+abbrev pub fedAs : ℕ → Own → List ℕ → Place → Place
+fedAs k t xs p = settledFrom (freshAt k) (ranAt k t (p .machine) xs) (p .score)
+
+-- the end of the stream to a decoder's place
+abbrev pub decoderEnded : Place → Place
+decoderEnded p = settledFrom (freshOf (p .machine)) (decodedEnd (p .machine)) (p .score)
+
+-- to place k: the first four are decoders', and to the others it is a space
+abbrev pub endedAs : ℕ → Own → Place → Place
+endedAs k t p = cond (ltb k 4) (decoderEnded p) (fedAs k t (space ∷ []) p)
+
+-- ---- all places, each over its own tables, the first one's number being k
+unfoldable pub fedEachFrom : Tables → List ℕ → ℕ → List Place → List Place
+fedEachFrom t xs k [] = []
+fedEachFrom t xs k (p ∷ ps) = fedAs k (ownOf t k) xs p ∷ fedEachFrom t xs (suc k) ps
+
+abbrev pub fedEach : Tables → List ℕ → List Place → List Place
+fedEach t xs ps = fedEachFrom t xs 0 ps
+
+unfoldable pub endedEachFrom : Tables → ℕ → List Place → List Place
+endedEachFrom t k [] = []
+endedEachFrom t k (p ∷ ps) = endedAs k (ownOf t k) p ∷ endedEachFrom t (suc k) ps
+
+abbrev pub endedEach : Tables → List Place → List Place
+endedEach t ps = endedEachFrom t 0 ps
+
+-- a part, which is the last one or not
+abbrev pub slateFed : Tables → Bool → List ℕ → List Place → List Place
+slateFed t last xs ps = cond last (endedEach t (fedEach t xs ps)) (fedEach t xs ps)
+
+-- ---- what the code knows of the answers besides: by how much a score can change, and that the weights have 32 bits
+pub record KnownRan (k : ℕ) (t : Own) (xs : List ℕ) (m : Machine) : Type 0 where
+  pub small : Bounded (perByte * length xs) (ranAt k t m xs)
+  pub weighed : Weighed m (t .weights) (ranAt k t m xs)
+
+abbrev pub KnownFrom : ℕ → Own → List ℕ → Machine → Score → Type 0
+KnownFrom k t xs m None = Unit {0}
+KnownFrom k t xs m (Live s) = KnownRan k t xs m
+
+abbrev pub KnownFed : ℕ → Own → List ℕ → Place → Type 0
+KnownFed k t xs p = KnownFrom k t xs (p .machine) (p .score)
+
+abbrev pub AllKnown : Tables → List ℕ → List Place → Type 0
+AllKnown t xs ps = EachFrom (λ (k : ℕ) (p : Place). KnownFed k (ownOf t k) xs p) 0 ps
+
+-- of the places to which the end is a space
+abbrev pub KnownEnd : ℕ → Own → Place → Type 0
+KnownEnd k t p = 4 ≤ k → KnownFed k t (space ∷ []) p
+
+abbrev pub EndKnown : Tables → List Place → Type 0
+EndKnown t ps = EachFrom (λ (k : ℕ) (p : Place). KnownEnd k (ownOf t k) p) 0 ps
+
+abbrev pub SlateKnown : Tables → Bool → List ℕ → List Place → Type 0
+SlateKnown t true xs ps = AllKnown t xs ps × EndKnown t (fedEach t xs ps)
+SlateKnown t false xs ps = AllKnown t xs ps
