@@ -6,20 +6,20 @@ use Prim.Native.Nat.{ℕ, _+_, _-_, _<_, _≤_}
 use native.Mathlib.Nat.{add-zero, zero-add}
 use native.Mathlib.Omega.{arith}
 use lib.Dec.{ltb}
-use lib.ListN.{length, take, drop, length-drop}
+use lib.ListN.{length, take, drop, length-drop, length-take}
 use borrow.Author.Tests.{ltb-false, lt-ltb, le-ltb}
 use Rattle.laws.specs.Limit.{limit}
 use Rattle.laws.specs.Lists.{count, count-append}
 use Rattle.context.specs.Context.{bytesOf}
-use Rattle.context.specs.ContextLaws.{bytes-most}
 use Rattle.tables.specs.Tables.{Tables, Sized, sizedB}
 use Rattle.tables.specs.TablesLaws.{sized-true, true-sized}
 use Rattle.places.specs.Order.{SlateFor}
-use Rattle.places.specs.Slate.{feedAll, slatedOf}
-use Rattle.places.specs.Kept.{AllKept, KeptIf}
-use Rattle.places.specs.SlateLaws.{slated-fit, fed-kept, feed-all-nil, nil-kept, fed-slate, slate-unfed}
+use Rattle.places.specs.Fed.{fedEach, slateFed, AllKnown, SlateKnown}
+use Rattle.places.specs.FedLaws.{slate-fed}
+use Rattle.places.specs.Slate.{feedAll}
+use Rattle.places.specs.Kept.{AllKept}
+use Rattle.places.specs.SlateLaws.{feed-all-nil, nil-kept, fed-slate, slate-unfed}
 use Rattle.places.specs.declared.place.Place.{Place}
-use Rattle.places.specs.declared.slate.Slated.{Slated}
 use Rattle.detector.specs.Feed.{verdictOf, refusalOf, placesBy, advanceOf, fed, accepted, feedBy, feedOf}
 use Rattle.detector.specs.Kept.{Passed, StaysIn}
 use Rattle.state.specs.State.{flagOf, triggered, startOf}
@@ -148,18 +148,18 @@ module _ (t : Tables) (s : State) (xs : List ℕ) (last : Bool) (passed : Passed
       slate-before : SlateFor (s .front .bytes) false (triggered (s .front)) (s .places)
       slate-before = rw (passed .going) at (passed .in-order .slate)
 
-      part-short : length part ≤ limit
+      part-short : s .front .bytes + length part ≤ limit
       part-short = rw (from, length-drop) (omega (arith, passed .short))
 
-      pub way-part : (next front : Front) (r : Slated) → next ≡ uncounted (s .front) xs last (triggerOf (s .front) xs) → front ≡ counted next part → r ≡ slatedOf t last part (s .places) → KeptIf (r .fit) t last part (s .places) → Result (record { front = front; places = r .places })
+      pub way-part : (next front : Front) (r : List Place) → next ≡ uncounted (s .front) xs last (triggerOf (s .front) xs) → front ≡ counted next part → r ≡ slateFed t last part (s .places) → SlateKnown t last part (s .places) → Result (record { front = front; places = r })
       unfolding dueAs placesBy
       way-part next front r a b e k =
-          let z = e ∙ slated-fit t part (s .places) last (triggered (s .front)) (s .front .bytes) (passed .sized) part-short slate-before in
+          let w = slate-fed t (passed .sized) (s .front .bytes) part part-short last (triggered (s .front)) (s .places) slate-before k in
           let nil = feed-all-nil t (s .places) in
-          let kept : AllKept t last part (s .places) = fed-kept t last part (s .places) (feedAll t last part (s .places)) r z k in
-          let places : feedAll t last part (feedAll t false [] (s .places)) ≡ r .places = ap (feedAll t last part) nil ∙ sym (ap (λ (x : Slated). x .places) z) in
+          let kept : AllKept t last part (s .places) = w .1 in
+          let places : feedAll t last part (feedAll t false [] (s .places)) ≡ r = ap (feedAll t last part) nil ∙ sym (e ∙ w .0) in
           let fronts : counted (uncounted (s .front) xs last (triggerOf (s .front) xs)) part ≡ front = ap (λ (f : Front). counted f part) (sym a) ∙ sym b in
-          subst (λ (x : Front). Result (record { front = x; places = r .places })) fronts
+          subst (λ (x : Front). Result (record { front = x; places = r })) fronts
           (subst (λ (ps : List Place). Result (record { front = counted (uncounted (s .front) xs last (triggerOf (s .front) xs)) part; places = ps })) places
           (advanced (some [] part) (rw (q, from)) (nil-kept t 0 (s .places), rw nil kept)))
 
@@ -168,25 +168,23 @@ module _ (t : Tables) (s : State) (xs : List ℕ) (last : Bool) (passed : Passed
       unfed : SlateFor 0 false false (s .places)
       unfed = slate-unfed (s .front .bytes) 0 false (s .places) (omega arith) (rw (passed .going, new) at (passed .in-order .slate))
 
-      before-short : length before ≤ 2
-      before-short = rw (saved, lent) (bytes-most (s .front .context))
+      -- it is of the stream's own bytes
+      before-short : length before ≤ s .front .bytes
+      before-short = rw (saved, lent) (rw length-take (omega (arith, passed .in-order .front .held)))
 
       -- the context is ASCII
       before-uncounted : (f : Front) → counted f (before ++ xs) ≡ counted f xs
       before-uncounted f = rw (saved, lent, count-append, triggerless-count (bytesOf (s .front .context)) (passed .in-order .front .saved .triggerless), zero-add)
 
-      pub way-after : (next front : Front) (warm r : Slated) → next ≡ uncounted (s .front) xs last (triggerOf (s .front) xs) → front ≡ counted next xs → warm ≡ slatedOf t false before (s .places) → KeptIf (warm .fit) t false before (s .places) → r ≡ slatedOf t last xs (warm .places) → KeptIf (r .fit) t last xs (warm .places) → Result (record { front = front; places = r .places })
+      pub way-after : (next front : Front) (r : List Place) → next ≡ uncounted (s .front) xs last (triggerOf (s .front) xs) → front ≡ counted next xs → r ≡ slateFed t last xs (fedEach t before (s .places)) → AllKnown t before (s .places) → SlateKnown t last xs (fedEach t before (s .places)) → Result (record { front = front; places = r })
       unfolding dueAs placesBy
-      way-after next front warm r a b e k f l =
-          let y = e ∙ slated-fit t before (s .places) false false 0 (passed .sized) (omega (arith, before-short)) unfed in
+      way-after next front r a b e k l =
           let hot = feedAll t false before (s .places) in
-          let first : AllKept t false before (s .places) = fed-kept t false before (s .places) hot warm y k in
-          let w : warm .places ≡ feedAll t false before (s .places) = ap (λ (x : Slated). x .places) y in
-          let slate = fed-slate t false false before 0 (s .places) (omega (arith, before-short)) first unfed in
-          let z = rw w at f ∙ slated-fit t xs (feedAll t false before (s .places)) last true (0 + length before) (passed .sized) (omega (arith, passed .short)) slate in
-          let second : AllKept t last xs (feedAll t false before (s .places)) = fed-kept t last xs hot (feedAll t last xs hot) r z (rw w at l) in
-          let places : feedAll t last xs (feedAll t false before (s .places)) ≡ r .places = sym (ap (λ (x : Slated). x .places) z) in
+          let y = slate-fed t (passed .sized) 0 before (omega (arith, before-short, passed .short)) false false (s .places) unfed k in
+          let slate = fed-slate t false false before 0 (s .places) (omega (arith, before-short, passed .short)) (y .1) unfed in
+          let z = slate-fed t (passed .sized) (0 + length before) xs (omega (arith, before-short, passed .short)) last true hot slate (subst (SlateKnown t last xs) (y .0) l) in
+          let places : feedAll t last xs (feedAll t false before (s .places)) ≡ r = sym (e ∙ (ap (slateFed t last xs) (y .0) ∙ z .0)) in
           let plain : counted (uncounted (s .front) xs last (triggerOf (s .front) xs)) (before ++ xs) ≡ front = before-uncounted (uncounted (s .front) xs last (triggerOf (s .front) xs)) ∙ (ap (λ (f : Front). counted f xs) (sym a) ∙ sym b) in
-          subst (λ (x : Front). Result (record { front = x; places = r .places })) plain
+          subst (λ (x : Front). Result (record { front = x; places = r })) plain
           (subst (λ (ps : List Place). Result (record { front = counted (uncounted (s .front) xs last (triggerOf (s .front) xs)) (before ++ xs); places = ps })) places
-          (advanced (some before xs) (rw (q, saved)) (first, second)))
+          (advanced (some before xs) (rw (q, saved)) (y .1, z .1)))

@@ -104,40 +104,17 @@ fn advance(
                 extras,
                 weights,
             );
-            let part_places = fed.places;
             State {
                 front: front::counted(next, part),
-                places: part_places,
+                places: fed,
             }
         }
         Due::After(count) => {
             let context = front.context;
             let saved = context.bytes();
-            let warm = slate::feed(
+            let fed = slate::feed_after(
                 places,
                 &saved[..count],
-                false,
-                classes4,
-                marks4,
-                pairs4,
-                classes5,
-                marks5,
-                pairs5,
-                classes6,
-                marks6,
-                pairs6,
-                classes7,
-                marks7,
-                pairs7,
-                big5,
-                euckr,
-                jis,
-                extras,
-                weights,
-            );
-            let warm_places = warm.places;
-            let fed = slate::feed(
-                warm_places,
                 chunk,
                 last,
                 classes4,
@@ -158,10 +135,9 @@ fn advance(
                 extras,
                 weights,
             );
-            let fed_places = fed.places;
             State {
                 front: front::counted(next, chunk),
-                places: fed_places,
+                places: fed,
             }
         }
     }

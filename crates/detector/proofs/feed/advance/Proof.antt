@@ -64,7 +64,10 @@ feed-requires : tie.Need-feed-requires
 feed-requires c κs = search needs
 
 counted-requires : tie.Need-counted-requires
-counted-requires c κs = roomy (c .before .before .before .before .before .before .before) (take (length (c .before .before .before .before .before .before .before .before .before .before .before .before .before .before .before .before .before .before .before .before .before .before .before .args .chunk .now) - c .before .before .before .before .from .given .0 .0) (drop (c .before .before .before .before .from .given .0 .0) (c .before .before .before .before .before .before .before .before .before .before .before .before .before .before .before .before .before .before .before .before .before .before .before .args .chunk .now))) (rw (rest-is, length-drop) (omega arith))
+counted-requires c κs =
+    let s = c .before .before .before .before .before .before .before .before .before .before .before .before .before .before .before .before .before .before .before .before .before .before in
+    let n = c .before .before .before .from .given .0 .0 in
+    roomy (c .before .before .before .before .before .before) (take (length (s .args .chunk .now) - n) (drop n (s .args .chunk .now))) (rw (rest-is, length-drop) (omega arith))
 
 enum-known-count : tie.Need-enum-known-count
 enum-known-count c = search needs
@@ -75,26 +78,41 @@ bytes-requires c κs = search needs
 array-share-prefix-saved : tie.Need-array-share-prefix-saved
 array-share-prefix-saved c = let s = c .before .before .before .before .before .before .before .before .before .before .before .before .before .before .before .before .before .before .before .before .before .before in rw (c .bytes .ensures) (after-within (s .args .state .front) (s .args .chunk .now) (c .before .before .before .before .before .before .before .trigger-in .result) (c .before .before .before .before .before .before .before .trigger-in .ensures) (c .before .before .before .before .before .due-by .result) (c .before .before .before .before .before .due-by .ensures .1) (c .before .before .before .count .given .0 .0) (c .before .before .before .count .given .1) .0)
 
-slice-aggregate-feed : tie.Need-slice-aggregate-feed
-slice-aggregate-feed c = let s = c .before .before .before .before .before .before .before .before .before .before .before .before .before .before .before .before .before .before .before .before .before .before .before in let h = after-within (s .args .state .front) (s .args .chunk .now) (c .before .before .before .before .before .before .before .before .trigger-in .result) (c .before .before .before .before .before .before .before .before .trigger-in .ensures) (c .before .before .before .before .before .before .due-by .result) (c .before .before .before .before .before .before .due-by .ensures .1) (c .before .before .before .before .count .given .0 .0) (c .before .before .before .before .count .given .1) .0 in let e : c .before .before .before .before .count .given .0 .0 ≡ length (take (c .before .before .before .before .count .given .0 .0) (c .before .bytes .result)) = rw (c .before .bytes .ensures, length-take) (omega (arith, h)) in e
+slice-aggregate-feed-after : tie.Need-slice-aggregate-feed-after
+slice-aggregate-feed-after c = let s = c .before .before .before .before .before .before .before .before .before .before .before .before .before .before .before .before .before .before .before .before .before .before .before in let h = after-within (s .args .state .front) (s .args .chunk .now) (c .before .before .before .before .before .before .before .before .trigger-in .result) (c .before .before .before .before .before .before .before .before .trigger-in .ensures) (c .before .before .before .before .before .before .due-by .result) (c .before .before .before .before .before .before .due-by .ensures .1) (c .before .before .before .before .count .given .0 .0) (c .before .before .before .before .count .given .1) .0 in let e : c .before .before .before .before .count .given .0 .0 ≡ length (take (c .before .before .before .before .count .given .0 .0) (c .before .bytes .result)) = rw (c .before .bytes .ensures, length-take) (omega (arith, h)) in e
 
-feed-requires-2 : tie.Need-feed-requires-2
-feed-requires-2 c κs = search needs
-
-feed-requires-3 : tie.Need-feed-requires-3
-feed-requires-3 c κs = search needs
+feed-after-requires : tie.Need-feed-after-requires
+feed-after-requires c κs = search needs
 
 counted-requires-2 : tie.Need-counted-requires-2
-counted-requires-2 c κs = roomy (c .before .before .before .before .before .before .before .before .before .before .before) (c .before .before .before .before .before .before .before .before .before .before .before .before .before .before .before .before .before .before .before .before .before .before .before .before .before .before .before .args .chunk .now) (omega arith)
+counted-requires-2 c κs = roomy (c .before .before .before .before .before .before .before .before) (c .before .before .before .before .before .before .before .before .before .before .before .before .before .before .before .before .before .before .before .before .before .before .before .before .args .chunk .now) (omega arith)
 
 returns : tie.Need-returns
 returns c = let s = c .before .before .before .before .before .before .before .before .before .before .before .before .before .before .before .before .before .before .before in way-nothing (lent s) (s .args .state) (s .args .chunk .now) (s .args .last) (s .pre) (c .before .before .due-by .result) (due-is (c .before .before)) (c .enum-told .given .1) (c .before .before .before .uncounted .result) (uncounted-is (c .before .before .before))
 
 returns-2 : tie.Need-returns-2
-returns-2 c = let s = c .before .before .before .before .before .before .before .before .before .before .before .before .before .before .before .before .before .before .before .before .before .before .before .before in let n = c .before .before .before .before .before .from .given .0 .0 in way-part (lent s) (s .args .state) (s .args .chunk .now) (s .args .last) (s .pre) (c .before .before .before .before .before .before .before .due-by .result) (due-is (c .before .before .before .before .before .before .before)) n (c .before .before .before .before .before .from .given .1) (take (length (s .args .chunk .now) - n) (drop n (s .args .chunk .now))) (rest-is n (s .args .chunk .now)) (c .before .before .before .before .before .before .before .before .uncounted .result) (c .counted .result) (c .before .before .feed .result) (uncounted-is (c .before .before .before .before .before .before .before .before)) (c .counted .ensures) (c .before .before .feed .ensures .0) (c .before .before .feed .ensures .1)
+returns-2 c =
+    let s = c .before .before .before .before .before .before .before .before .before .before .before .before .before .before .before .before .before .before .before .before .before .before .before in
+    let from = c .before .before .before .before .from in
+    let n = from .given .0 .0 in
+    let part = take (length (s .args .chunk .now) - n) (drop n (s .args .chunk .now)) in
+    let due = c .before .before .before .before .before .before in
+    let next = c .before .before .before .before .before .before .before in
+    way-part (lent s) (s .args .state) (s .args .chunk .now) (s .args .last) (s .pre) (due .due-by .result) (due-is due) n (from .given .1) part (rest-is n (s .args .chunk .now)) (next .uncounted .result) (c .counted .result) (c .before .feed .result) (uncounted-is next) (c .counted .ensures) (c .before .feed .ensures .0) (c .before .feed .ensures .1)
 
 returns-3 : tie.Need-returns-3
-returns-3 c = let s = c .before .before .before .before .before .before .before .before .before .before .before .before .before .before .before .before .before .before .before .before .before .before .before .before .before .before .before .before in let k = c .before .before .before .before .before .before .before .before .before .count .given .0 .0 in let q = c .before .before .before .before .before .before .before .before .before .count .given .1 in way-after (lent s) (s .args .state) (s .args .chunk .now) (s .args .last) (s .pre) (c .before .before .before .before .before .before .before .before .before .before .before .due-by .result) (due-is (c .before .before .before .before .before .before .before .before .before .before .before)) k q (after-within (s .args .state .front) (s .args .chunk .now) (c .before .before .before .before .before .before .before .before .before .before .before .before .before .trigger-in .result) (c .before .before .before .before .before .before .before .before .before .before .before .before .before .trigger-in .ensures) (c .before .before .before .before .before .before .before .before .before .before .before .due-by .result) (c .before .before .before .before .before .before .before .before .before .before .before .due-by .ensures .1) k q .1) (after-new (s .args .state .front) (s .args .chunk .now) (c .before .before .before .before .before .before .before .before .before .before .before .before .before .trigger-in .result) (c .before .before .before .before .before .before .before .before .before .before .before .before .before .trigger-in .ensures) (c .before .before .before .before .before .before .before .before .before .before .before .due-by .result) (c .before .before .before .before .before .before .before .before .before .before .before .due-by .ensures .1) k q) (take k (c .before .before .before .before .before .before .bytes .result)) (ap (take k) (c .before .before .before .before .before .before .bytes .ensures)) (c .before .before .before .before .before .before .before .before .before .before .before .before .uncounted .result) (c .counted2 .result) (c .before .before .before .before .feed2 .result) (c .before .before .feed3 .result) (uncounted-is (c .before .before .before .before .before .before .before .before .before .before .before .before)) (c .counted2 .ensures) (c .before .before .before .before .feed2 .ensures .0) (c .before .before .before .before .feed2 .ensures .1) (c .before .before .feed3 .ensures .0) (c .before .before .feed3 .ensures .1)
+returns-3 c =
+    let s = c .before .before .before .before .before .before .before .before .before .before .before .before .before .before .before .before .before .before .before .before .before .before .before .before .before in
+    let count = c .before .before .before .before .before .before .count in
+    let k = count .given .0 .0 in
+    let q = count .given .1 in
+    let trigger = c .before .before .before .before .before .before .before .before .before .before .trigger-in in
+    let due = c .before .before .before .before .before .before .before .before in
+    let next = c .before .before .before .before .before .before .before .before .before in
+    let bytes = c .before .before .before .bytes in
+    let within = after-within (s .args .state .front) (s .args .chunk .now) (trigger .result) (trigger .ensures) (due .due-by .result) (due .due-by .ensures .1) k q in
+    let new = after-new (s .args .state .front) (s .args .chunk .now) (trigger .result) (trigger .ensures) (due .due-by .result) (due .due-by .ensures .1) k q in
+    way-after (lent s) (s .args .state) (s .args .chunk .now) (s .args .last) (s .pre) (due .due-by .result) (due-is due) k q (within .1) new (take k (bytes .result)) (ap (take k) (bytes .ensures)) (next .uncounted .result) (c .counted2 .result) (c .before .feed-after .result) (uncounted-is next) (c .counted2 .ensures) (c .before .feed-after .ensures .0) (c .before .feed-after .ensures .1 .0) (c .before .feed-after .ensures .1 .1)
 
 pub advance-spec : {M : Type 1} → statement M
 advance-spec =
@@ -113,9 +131,8 @@ advance-spec =
     enum-known-count
     bytes-requires
     array-share-prefix-saved
-    slice-aggregate-feed
-    feed-requires-2
-    feed-requires-3
+    slice-aggregate-feed-after
+    feed-after-requires
     counted-requires-2
     returns
     returns-2
