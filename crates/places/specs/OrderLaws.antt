@@ -35,7 +35,7 @@ use Rattle.kinds.specs.declared.machine.Machine.{Machine}
 use Rattle.kinds.specs.declared.machine.Machine.the-variants.{Utf8, Iso2022Jp, EucKr, Big5, Caseless, Logical, Visual, ArabicFrench}
 use Rattle.places.specs.Order.{ScoredFor, ZeroOrNone, FedOr, PlaceFor, SlateFor, scoredB, zeroOrNoneB, unfedB, placeB, slateB}
 use Rattle.places.specs.Place.{place, placeAs}
-use Rattle.places.specs.Steps.{endFrom, endOf}
+use Rattle.places.specs.Steps.{endFrom, endOf, scoreSize, begunB}
 use Rattle.places.specs.declared.place.Place.{Place}
 use Rattle.places.specs.declared.place.Score.{Score}
 use Rattle.places.specs.declared.place.Score.the-variants.{None, Live}
@@ -98,6 +98,9 @@ module _ (n : ℕ) (closed fed : Bool) where
   true-slate ps o = rw (le-leb _ _ (o .most), true-each (placeB n closed fed) (PlaceFor n closed fed) true-place 0 ps (o .each))
 
 -- ---- each way through the test of one place
+no-truth : false ≡ true → ⊥
+no-truth e = let q : _≡_ {A = ℕ} 0 1 = cc in omega arith
+
 fresh-then : (n reach : ℕ) (m : Machine) (b : Bool) → freshB m ≡ b → (soundB n reach m && b) ≡ b
 fresh-then n reach m true e =
     let h : SoundFor n reach m = rw (sym (fresh-true m e)) at (fresh-sound n reach m) in
@@ -111,7 +114,7 @@ module _ (n : ℕ) (closed fed : Bool) (k : ℕ) (p : Place) where
 
   module _ (e : placeNumber (p .machine) ≡ k) where
     -- without a score: fresh, and nothing else is asked
-    pub place-none : p .score ≡ None → freshB (p .machine) ≡ placeB n closed fed k p
+    place-none : p .score ≡ None → freshB (p .machine) ≡ placeB n closed fed k p
     unfolding placeB scoredB unfedB zeroOrNoneB
     place-none q = rw (eq-eqb _ _ e, q) (at fed (freshB (p .machine)) refl)
       where
@@ -123,7 +126,7 @@ module _ (n : ℕ) (closed fed : Bool) (k : ℕ) (p : Place) where
 
     module _ (s : ℤ) (q : p .score ≡ Live s) where
       -- not fed: fresh with the score 0, and nothing else is asked
-      pub place-unfed : fed ≡ false → (r : Bool) → r ≡ (eqb (natAbs s) 0 && freshB (p .machine)) → r ≡ placeB n closed fed k p
+      place-unfed : fed ≡ false → (r : Bool) → r ≡ (eqb (natAbs s) 0 && freshB (p .machine)) → r ≡ placeB n closed fed k p
       unfolding placeB scoredB unfedB zeroOrNoneB
       place-unfed u r i = rw (eq-eqb _ _ e, q, u) (i ∙ at (eqb (natAbs s) 0) (freshB (p .machine)) refl refl)
         where
@@ -135,9 +138,25 @@ module _ (n : ℕ) (closed fed : Bool) (k : ℕ) (p : Place) where
           at false true g h = sym (rw (and-false, and-false))
           at false false g h = sym (rw (and-false, and-false))
 
-      pub place-fed : fed ≡ true → (r : Bool) → r ≡ (leb (natAbs s) (perByte * reachOf (p .machine) n closed) && soundB n (reachOf (p .machine) n closed) (p .machine)) → r ≡ placeB n closed fed k p
+      place-fed : fed ≡ true → (r : Bool) → r ≡ (leb (natAbs s) (perByte * reachOf (p .machine) n closed) && soundB n (reachOf (p .machine) n closed) (p .machine)) → r ≡ placeB n closed fed k p
       unfolding placeB scoredB
       place-fed u r i = rw (eq-eqb _ _ e, q, u, and-true) (i ∙ and-comm (leb (natAbs s) (perByte * reachOf (p .machine) n closed)) (soundB n (reachOf (p .machine) n closed) (p .machine)))
+
+    -- as the code goes: begun, or not
+    module _ (r : Bool) where
+      pub place-begun : begunB fed (p .score) ≡ true → r ≡ (leb (scoreSize (p .score)) (perByte * reachOf (p .machine) n closed) && soundB n (reachOf (p .machine) n closed) (p .machine)) → r ≡ placeB n closed fed k p
+      place-begun b i = at (p .score) refl b i
+        where
+          at : (c : Score) → p .score ≡ c → begunB fed c ≡ true → r ≡ (leb (scoreSize c) (perByte * reachOf (p .machine) n closed) && soundB n (reachOf (p .machine) n closed) (p .machine)) → r ≡ placeB n closed fed k p
+          at None q b i = absurd (no-truth b)
+          at (Live s) q b i = place-fed s q b r i
+
+      pub place-unbegun : begunB fed (p .score) ≡ false → r ≡ (eqb (scoreSize (p .score)) 0 && freshB (p .machine)) → r ≡ placeB n closed fed k p
+      place-unbegun b i = at (p .score) refl b i
+        where
+          at : (c : Score) → p .score ≡ c → begunB fed c ≡ false → r ≡ (eqb (scoreSize c) 0 && freshB (p .machine)) → r ≡ placeB n closed fed k p
+          at None q b i = i ∙ place-none q
+          at (Live s) q b i = place-unfed s q b r i
 
 -- ---- for the loop of the test
 module _ (n : ℕ) (closed fed : Bool) (ps : List Place) where

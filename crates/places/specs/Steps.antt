@@ -1,4 +1,6 @@
--- The end of the stream by itself, and what feeding asks: for the laws alone.
+-- The code's own steps, which no public contract cites: the end of the stream by itself, what feeding asks, and how the test of
+-- a place goes.
+use mathlib.Core.Bool.{Bool, false}
 use Prim.Native.Nat.{ℕ, _*_, _≤_}
 use lib.IntN.{natAbs}
 use Rattle.laws.specs.Limit.{limit}
@@ -31,3 +33,13 @@ pub record FitPart (t : Own) (p : Place) (bytes : ℕ) : Type 0 where
   pub sound : SoundFor limit limit (p .machine)
   pub small : BoundedScore (perByte * limit) (p .score)
   pub short : bytes ≤ limit
+
+-- ---- the test of a place
+abbrev pub scoreSize : Score → ℕ
+scoreSize None = 0
+scoreSize (Live s) = natAbs s
+
+-- with a score, and fed
+abbrev pub begunB : Bool → Score → Bool
+begunB fed None = false
+begunB fed (Live s) = fed

@@ -4,6 +4,7 @@ ghost use Prim.Native.Nat.{_≤_};
 ghost use Rattle.laws.specs.Limit.{limit};
 ghost use Rattle.kinds.specs.Sound.{reachOf};
 ghost use Rattle.places.specs.Order.{placeB, slateB};
+ghost use Rattle.places.specs.Steps.{scoreSize, begunB};
 use crate::place::Place;
 use crate::place::Score;
 use crate::place::Slate;
@@ -28,6 +29,26 @@ fn reach(machine: Machine, bytes: u64, closed: bool) -> u64
     bytes
 }
 
+// How far a score is from zero; none is at zero.
+fn size_of(score: Score) -> u64
+    ensures { λ r. ⌜ r ≡ scoreSize score ⌝ }
+{
+    match score {
+        Score::None => 0,
+        Score::Live(n) => signed::size(n),
+    }
+}
+
+// Whether a machine with this score has begun to score.
+fn is_begun(score: Score, fed: bool) -> bool
+    ensures { λ r. ⌜ r ≡ begunB fed score ⌝ }
+{
+    match score {
+        Score::None => false,
+        Score::Live(_) => fed,
+    }
+}
+
 // Whether it can stand at place k: after so many bytes, the stream closed or not, fed already or not. A fresh record is
 // one that no bound excludes.
 fn is_in_order(place: Place, k: usize, bytes: u64, closed: bool, fed: bool) -> bool
@@ -39,14 +60,11 @@ fn is_in_order(place: Place, k: usize, bytes: u64, closed: bool, fed: bool) -> b
     if machine.place_number() != k {
         return false;
     }
-    let Score::Live(n) = score else {
-        return fresh::is_fresh(machine);
-    };
-    if !fed {
-        return signed::size(n) == 0 && fresh::is_fresh(machine);
+    if is_begun(score, fed) {
+        let most = reach(machine, bytes, closed);
+        return size_of(score) <= PER_BYTE * most && sound::is_sound(machine, bytes, most);
     }
-    let most = reach(machine, bytes, closed);
-    signed::size(n) <= PER_BYTE * most && sound::is_sound(machine, bytes, most)
+    size_of(score) == 0 && fresh::is_fresh(machine)
 }
 
 // Whether all places can stand so.
