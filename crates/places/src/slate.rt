@@ -95,7 +95,8 @@ fn feed_each(
     ]
 }
 
-// Two parts, one after the other.
+// Two parts, one after the other. It is written out, not two calls of `feed_each`, so that each machine's loop is compiled as a
+// function of its own: all in one they take a tenth more instructions a byte.
 fn feed_both(
     places: Slate,
     before: &[u8],
