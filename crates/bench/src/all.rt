@@ -17,22 +17,25 @@ use lines::show;
 use state;
 use state::State;
 
-// Where the chunk that begins at `at` ends; a size of 0 is that of the whole text.
+// A chunk that no text is longer than.
+const WHOLE: usize = 262_144;
+
+// Where the chunk that begins at `at` ends.
 fn ending(at: usize, size: usize, len: usize) -> usize
     requires { ⌜ at < len ⌝ }
+    requires { ⌜ 0 < size ⌝ }
     ensures { λ r. ⌜ (at < r) × (r ≤ len) ⌝ }
 {
-    if size == 0 {
-        return len;
-    }
     if len - at < size {
         return len;
     }
     at + size
 }
 
+// The state comes in from outside, as it does to a feed in a library. Where a start and the feed are compiled as one, the
+// compiler takes the state apart into its fields, and each feed costs some 300 instructions more.
 fn over(
-    bits: u8,
+    from: State,
     size: usize,
     text: &[u8],
     classes4: &[u8; CLASSES],
@@ -52,8 +55,10 @@ fn over(
     jis: &[u32; JIS],
     extras: &[i16; EXTRAS],
     weights: &[i32; WEIGHTS],
-) -> State {
-    let mut state = state::start(bits);
+) -> State
+    requires { ⌜ 0 < size ⌝ }
+{
+    let mut state = from;
     let mut at: usize = 0;
     while at < text.len() {
         let end = ending(at, size, text.len());
@@ -79,8 +84,7 @@ fn over(
             extras,
             weights,
         );
-        let after = fed.state;
-        state = after;
+        state = fed.state;
         at = end;
     }
     state
@@ -127,8 +131,34 @@ fn run_over(bits: u8, size: usize, text: &[u8], from: i32) -> bool {
     if !lent::weights(from, &mut weights) {
         return false;
     }
+    let start = state::start(bits);
+    if size == 0 {
+        print(over(
+            start,
+            WHOLE,
+            text,
+            &classes4,
+            &marks4,
+            &pairs4,
+            &classes5,
+            &marks5,
+            &pairs5,
+            &classes6,
+            &marks6,
+            &pairs6,
+            &classes7,
+            &marks7,
+            &pairs7,
+            &big5,
+            &euckr,
+            &jis,
+            &extras,
+            &weights,
+        ));
+        return true;
+    }
     print(over(
-        bits,
+        start,
         size,
         text,
         &classes4,
@@ -152,7 +182,8 @@ fn run_over(bits: u8, size: usize, text: &[u8], from: i32) -> bool {
     true
 }
 
-// The arguments: the places that take part, as a number of eight bits, the size of a chunk, a file of lent data.
+// The arguments: the places that take part, as a number of eight bits, the size of a chunk (0 for all of the text), a file of
+// lent data.
 pub(crate) fn run(text: &[u8]) {
     let bits = (arguments::number(2) % 256) as u8;
     if !run_over(bits, arguments::number(3), text, open()) {
