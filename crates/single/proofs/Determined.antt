@@ -9,14 +9,20 @@ use Rattle.single.proofs.is_non_latin_alphabetic.Kinds as is-non-latin-
 use Rattle.single.proofs.is_non_latin_alphabetic.Reads as is-non-latin-alphabetic-reads
 use Rattle.single.proofs.words_after.Kinds as words-after-kinds
 use Rattle.single.proofs.words_after.Reads as words-after-reads
+use Rattle.single.proofs.is_at_rest.Kinds as is-at-rest-kinds
+use Rattle.single.proofs.is_at_rest.Reads as is-at-rest-reads
 use Rattle.single.proofs.is_punctuation.Kinds as is-punctuation-kinds
 use Rattle.single.proofs.is_punctuation.Reads as is-punctuation-reads
 use Rattle.single.proofs.count_if.Kinds as count-if-kinds
 use Rattle.single.proofs.count_if.Reads as count-if-reads
 use Rattle.single.proofs.is_ascii_pair.Kinds as is-ascii-pair-kinds
 use Rattle.single.proofs.is_ascii_pair.Reads as is-ascii-pair-reads
+use Rattle.single.proofs.pair_score.Kinds as pair-score-kinds
+use Rattle.single.proofs.pair_score.Reads as pair-score-reads
 use Rattle.single.proofs.pair_gain.Kinds as pair-gain-kinds
 use Rattle.single.proofs.pair_gain.Reads as pair-gain-reads
+use Rattle.single.proofs.marked_gain.Kinds as marked-gain-kinds
+use Rattle.single.proofs.marked_gain.Reads as marked-gain-reads
 use Rattle.single.proofs.gain.Kinds as gain-kinds
 use Rattle.single.proofs.gain.Reads as gain-reads
 
@@ -32,6 +38,9 @@ is-non-latin-alphabetic = record { total = λ κs a. tt; one = λ κs a z z′ w
 pub words-after : Determined 0 words-after-kinds.ps words-after-kinds.r words-after-reads.Asked words-after-reads.Learnt
 words-after = record { total = λ κs a. tt; one = λ κs a z z′ w w′ p q. (same p q, refl) }
 
+pub is-at-rest : Determined 0 is-at-rest-kinds.ps is-at-rest-kinds.r is-at-rest-reads.Asked is-at-rest-reads.Learnt
+is-at-rest = record { total = λ κs a. tt; one = λ κs a z z′ w w′ p q. (same p q, refl) }
+
 pub is-punctuation : Determined 0 is-punctuation-kinds.ps is-punctuation-kinds.r is-punctuation-reads.Asked is-punctuation-reads.Learnt
 is-punctuation = record { total = λ κs a. tt; one = λ κs a z z′ w w′ p q. (same p q, refl) }
 
@@ -41,8 +50,14 @@ count-if = record { total = λ κs a. tt; one = λ κs a z z′ w w′ p q. (sam
 pub is-ascii-pair : Determined 0 is-ascii-pair-kinds.ps is-ascii-pair-kinds.r is-ascii-pair-reads.Asked is-ascii-pair-reads.Learnt
 is-ascii-pair = record { total = λ κs a. tt; one = λ κs a z z′ w w′ p q. (same p q, refl) }
 
+pub pair-score : Determined 1 pair-score-kinds.ps pair-score-kinds.r pair-score-reads.Asked pair-score-reads.Learnt
+pair-score = record { total = λ κs a. tt; one = λ κs a z z′ w w′ p q. (same (p .0) (q .0), refl) }
+
 pub pair-gain : Determined 3 pair-gain-kinds.ps pair-gain-kinds.r pair-gain-reads.Asked pair-gain-reads.Learnt
 pair-gain = record { total = λ κs a. tt; one = λ κs a z z′ w w′ p q. (same (p .0) (q .0), refl) }
+
+pub marked-gain : Determined 3 marked-gain-kinds.ps marked-gain-kinds.r marked-gain-reads.Asked marked-gain-reads.Learnt
+marked-gain = record { total = λ κs a. tt; one = λ κs a z z′ w w′ p q. (same (p .0) (q .0), refl) }
 
 pub gain : Determined 3 gain-kinds.ps gain-kinds.r gain-reads.Asked gain-reads.Learnt
 gain = record { total = λ κs a. tt; one = λ κs a z z′ w w′ p q. (same (p .0) (q .0), refl) }

@@ -9,5 +9,6 @@ pub mod Lent
 pub mod Pair
 pub mod PairLaws
 pub mod Punctuation
+pub mod Rest
 pub mod Words
 pub mod WordsLaws

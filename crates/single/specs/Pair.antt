@@ -18,6 +18,11 @@ unfoldable pub adjacentOf : List ℕ → ℕ → ℕ → Bool
 adjacentOf marks previous current =
     (eqb previous latinLetter && alphabeticOf marks current) || (eqb current latinLetter && alphabeticOf marks previous)
 
+-- the same, where it is known whether the current class is alphabetic
+unfoldable pub besideOf : List ℕ → Bool → ℕ → ℕ → Bool
+besideOf marks alphabetic previous current =
+    (eqb previous latinLetter && alphabetic) || (eqb current latinLetter && alphabeticOf marks previous)
+
 -- entry 128 x current + previous
 abbrev pub pairScore : List ℤ → ℕ → ℕ → ℤ
 pairScore pairs previous current = getD pairs (128 * current + previous) (pos 0)
@@ -25,6 +30,11 @@ pairScore pairs previous current = getD pairs (128 * current + previous) (pos 0)
 unfoldable pub pairGainOf : List ℕ → List ℤ → List ℤ → ℕ → ℕ → ℤ
 pairGainOf marks pairs weights previous current =
     cond (adjacentOf marks previous current) (pairScore pairs previous current +ℤ weightOf weights latinAdjacency)
+    (pairScore pairs previous current)
+
+unfoldable pub markedGainOf : List ℕ → List ℤ → List ℤ → Bool → ℕ → ℕ → ℤ
+markedGainOf marks pairs weights alphabetic previous current =
+    cond (besideOf marks alphabetic previous current) (pairScore pairs previous current +ℤ weightOf weights latinAdjacency)
     (pairScore pairs previous current)
 
 -- by what a byte changes the score, in each of the four machines, but for the case weight of Arabic-French

@@ -7,8 +7,9 @@ ghost use Rattle.weights.specs.Weights.{term};
 ghost use Rattle.single.specs.Class.{alphabeticOf};
 ghost use Rattle.single.specs.Fit.{commonB, fitB};
 ghost use Rattle.single.specs.Lent.{lent, sizedB};
-ghost use Rattle.single.specs.Pair.{asciiPair, adjacentOf, pairScore, pairGainOf};
+ghost use Rattle.single.specs.Pair.{asciiPair, adjacentOf, besideOf, pairScore, pairGainOf, markedGainOf};
 ghost use Rattle.single.specs.Punctuation.{punctuationOf, countOf};
+ghost use Rattle.single.specs.Rest.{restB};
 ghost use Rattle.single.specs.Words.{in64, wordsOf};
 
 pub const LATIN_LETTER: u8 = 1;
@@ -86,6 +87,13 @@ pub fn words_after(current: u64, longest: u64, alphabetic: bool) -> Words
     }
 }
 
+// Whether a byte of the part came before byte i, and no word has begun.
+pub fn is_at_rest(i: usize, word: u64) -> bool
+    ensures { λ r. ⌜ r ≡ restB i word ⌝ }
+{
+    (i != 0) & (word == 0)
+}
+
 // Whether a byte is ASCII punctuation of caseless class 0.
 pub fn is_punctuation(class: u8, b: u8) -> bool
     ensures { λ r. ⌜ r ≡ punctuationOf class b ⌝ }
@@ -128,8 +136,21 @@ fn is_adjacent(prev: u8, current: u8, marks: &[u8]) -> bool
     false
 }
 
+// The same, where the caller knows whether `current` is alphabetic.
+fn is_beside(prev: u8, current: u8, alphabetic: bool, marks: &[u8]) -> bool
+    ensures { λ r. ⌜ r ≡ besideOf (now (marks .entry)) alphabetic prev current ⌝ }
+{
+    if (prev == LATIN_LETTER) & alphabetic {
+        return true;
+    }
+    if current != LATIN_LETTER {
+        return false;
+    }
+    is_non_latin_alphabetic(marks, prev)
+}
+
 // The lent score of the pair, or 0 where there is none.
-fn pair_score(prev: u8, current: u8, pairs: &[i16]) -> i64
+pub fn pair_score(prev: u8, current: u8, pairs: &[i16]) -> i64
     ensures { λ r. ⌜ r ≡ pairScore (now (pairs .entry)) prev current ⌝ }
     ensures { λ r. ⌜ natAbs r ≤ term ⌝ }
 {
@@ -150,6 +171,25 @@ pub fn pair_gain(prev: u8, current: u8, marks: &[u8], pairs: &[i16], weights: &[
         return pair + weights::weight(weights, weights::LATIN_ADJACENCY);
     }
     pair
+}
+
+// The same for a caller that knows whether `current` is alphabetic.
+pub fn marked_gain(
+    prev: u8,
+    current: u8,
+    alphabetic: bool,
+    marks: &[u8],
+    pairs: &[i16],
+    weights: &[i32],
+) -> i64
+    ensures { λ r. ⌜ r ≡ markedGainOf (now (marks .entry)) (now (pairs .entry)) (now (weights .entry)) alphabetic prev current ⌝ }
+    ensures { λ r. ⌜ natAbs r ≤ 2 * term ⌝ }
+{
+    let score = pair_score(prev, current, pairs);
+    if is_beside(prev, current, alphabetic, marks) {
+        return score + weights::weight(weights, weights::LATIN_ADJACENCY);
+    }
+    score
 }
 
 // By what a byte of that class changes the score, but for the case weight.

@@ -1,31 +1,16 @@
--- `Visual::noted` meets its contract: at the part's start the record itself, else the flag of the byte before.
-use native.Mathlib.Omega.{arith}
+-- `Visual::noted` meets its contract.
 use borrow.Author.Needs.{needs}
-use borrow.Author.Tests.{eq-eqb, ne-eqb}
 use Rattle.visual.proofs.Visual.noted.Statement.{statement}
 use Rattle.visual.proofs.Visual.noted.Tie as tie
 
+ascii-before-requires : tie.Need-ascii-before-requires
+ascii-before-requires c κs = search needs
+
+punctuation-before-requires : tie.Need-punctuation-before-requires
+punctuation-before-requires c κs = search needs
+
 returns : tie.Need-returns
-returns c = rw (eq-eqb _ _ (c .if1 .taken))
-
-sub-is-punctuation : tie.Need-sub-is-punctuation
-sub-is-punctuation c = search needs
-
-shared-slice-read-is-punctuation : tie.Need-shared-slice-read-is-punctuation
-shared-slice-read-is-punctuation c = omega (arith, c .before .before .before .pre, c .before .if1 .left)
-
-is-punctuation-requires : tie.Need-is-punctuation-requires
-is-punctuation-requires c κs = search needs
-
-returns-2 : tie.Need-returns-2
-returns-2 c = rw (ne-eqb _ _ (c .before .before .if1 .left), c .is-punctuation .ensures)
+returns c = rw (c .punctuation-before .ensures, c .before .ascii-before .ensures)
 
 pub noted-spec : {M : Type 1} → statement M
-noted-spec =
-    tie.close
-    (tie.spec
-    returns
-    sub-is-punctuation
-    shared-slice-read-is-punctuation
-    is-punctuation-requires
-    returns-2)
+noted-spec = tie.close (tie.spec ascii-before-requires punctuation-before-requires returns)
