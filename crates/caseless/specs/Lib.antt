@@ -1,3 +1,4 @@
 pub mod Caseless
 pub mod CaselessLaws
 pub mod HeadLaws
+pub mod Noted

@@ -1,3 +1,4 @@
+pub mod HeadLaws
 pub mod Logical
 pub mod LogicalLaws
-pub mod HeadLaws
+pub mod Noted

@@ -1,5 +1,6 @@
 pub mod Answers
 pub mod AnswersLaws
+pub mod Before
 pub mod Class
 pub mod ClassLaws
 pub mod Fit

@@ -32,7 +32,7 @@ module _ (marks : List ℕ) where
   rest-next i word k true e h = absurd (omega (arith, rest-word i (word + 1) h))
   rest-next i word k false e h = e
 
-and-false : (x : Bool) → (x && false) ≡ false
+pub and-false : (x : Bool) → (x && false) ≡ false
 and-false true = refl
 and-false false = refl
 

@@ -3,13 +3,12 @@ use mathlib.Core.Path.{_≡_, refl, sym}
 use mathlib.Core.Bool.{Bool, true, false, cond, not, _&&_}
 use mathlib.Core.List.{List}
 use Prim.Native.Nat.{ℕ, _+_, _-_}
-use native.Mathlib.Omega.{arith}
 use lib.Dec.{eqb}
 use lib.IntN.{ℤ, pos}
 use lib.ListN.{getD}
-use borrow.Author.Tests.{ne-eqb}
 use Rattle.laws.specs.Run.{Outcome, live, none, dropped, Dropout}
 use Rattle.octets.specs.Octets.{ascii}
+use Rattle.single.specs.Before.{asciiBefore, not-first, one-back}
 use Rattle.single.specs.Class.{classOf, caselessOf, alphabetic, unless255}
 use Rattle.single.specs.ClassLaws.{live-is}
 use Rattle.single.specs.Lent.{Lent}
@@ -20,10 +19,7 @@ use Rattle.single.specs.Words.{wordOf, longestOf}
 use Rattle.visual.specs.Visual.{plausibleOf, nextOf, stepOf}
 use Rattle.visual.specs.declared.Visual.{Visual}
 
--- what the byte before byte i of a part says, and at the part's start the record
-abbrev pub asciiBefore : List ℕ → ℕ → Visual → Bool
-asciiBefore xs i m = cond (eqb i 0) (m .«prev_ascii») (ascii (getD xs (i - 1) 0))
-
+-- whether the byte before byte i of a part is ASCII punctuation of caseless class 0; at the part's start the record has it
 abbrev pub punctuationBefore : List ℕ → ℕ → Visual → Bool
 punctuationBefore xs i m = cond (eqb i 0) (m .«prev_punctuation») (punctuationOf (m .prev) (getD xs (i - 1) 0))
 
@@ -38,9 +34,12 @@ flagged isAscii isPunctuation m =
       «longest_word» = m .«longest_word»;
     }
 
+abbrev pub pairAt : List ℕ → ℕ → Visual → Bool
+pairAt xs i m = asciiPair (asciiBefore xs i (m .«prev_ascii»)) (getD xs i 0)
+
 -- the record at byte i of a part
 abbrev pub noted : List ℕ → ℕ → Visual → Visual
-noted xs i m = flagged (asciiBefore xs i m) (punctuationBefore xs i m) m
+noted xs i m = flagged (asciiBefore xs i (m .«prev_ascii»)) (punctuationBefore xs i m) m
 
 abbrev pub bare : ℕ → ℕ → ℕ → ℕ → Visual
 bare prev plausible word longest =
@@ -91,7 +90,4 @@ module _ (t : Lent) (m : Visual) (b : ℕ) where
 
 -- what the step before leaves is the record at the next byte
 pub noted-next : (xs : List ℕ) (i : ℕ) (n : Visual) → noted xs (i + 1) n ≡ flagged (ascii (getD xs i 0)) (punctuationOf (n .prev) (getD xs i 0)) n
-noted-next xs i n =
-    let later : eqb (i + 1) 0 ≡ false = ne-eqb (i + 1) 0 (λ e. omega (arith, e)) in
-    let q : i + 1 - 1 ≡ i = omega arith in
-    rw (later, q)
+noted-next xs i n = rw (not-first i, one-back i)

@@ -8,9 +8,10 @@ ghost use Rattle.laws.specs.Answer.{ran};
 ghost use Rattle.laws.specs.Run.{alive, live, run};
 ghost use Rattle.weights.specs.Weights.{perByte};
 ghost use Rattle.visual.specs.Visual.{fresh, stepOf, answerOf, ranAs, ranOf, closedOf, Sound, soundB, Bounded};
-ghost use Rattle.visual.specs.Noted.{asciiBefore, punctuationBefore, noted, bare, leftBy, gainBy, roughOf};
+ghost use Rattle.visual.specs.Noted.{punctuationBefore, pairAt, noted, bare, leftBy, gainBy, roughOf};
 ghost use Rattle.laws.specs.Limit.{room};
 ghost use Rattle.single.specs.Fit.{Fit};
+ghost use Rattle.single.specs.Before.{asciiBefore};
 ghost use Rattle.single.specs.Class.{alphabeticOf};
 ghost use Rattle.single.specs.Lent.{lent, Sized};
 ghost use Rattle.single.specs.Rest.{Rests};
@@ -52,12 +53,20 @@ impl Visual {
     // Whether the byte before byte i of a part is ASCII; the record has it of the byte before the part.
     fn ascii_before(self, part: &[u8], i: usize) -> bool
         requires { ⌜ i ≤ length (now part) ⌝ }
-        ensures { λ r. ⌜ r ≡ asciiBefore (now (part .entry)) i self ⌝ }
+        ensures { λ r. ⌜ r ≡ asciiBefore (now (part .entry)) i (self .«prev_ascii») ⌝ }
     {
         if i == 0 {
             return self.prev_ascii;
         }
         octets::is_ascii(part[i - 1])
+    }
+
+    // Whether byte i of a part and the one before are both ASCII.
+    fn is_ascii_pair(self, part: &[u8], i: usize) -> bool
+        requires { ⌜ i < length (now part) ⌝ }
+        ensures { λ r. ⌜ r ≡ pairAt (now (part .entry)) i self ⌝ }
+    {
+        single::is_ascii_pair(self.ascii_before(part, i), part[i])
     }
 
     // Whether the byte before byte i of a part is ASCII punctuation of caseless class 0.
@@ -117,7 +126,7 @@ impl Visual {
         ensures { λ r. ⌜ Bounded perByte r ⌝ }
     {
         let words = single::words_after(self.current_word_len, self.longest_word, true);
-        if single::is_ascii_pair(self.ascii_before(part, i), part[i]) {
+        if self.is_ascii_pair(part, i) {
             let count = self.plausible_punctuation;
             return Ran::Live(Self::bare(current, count, words.current, words.longest), 0);
         }
@@ -148,7 +157,7 @@ impl Visual {
         ensures { λ r. ⌜ Bounded perByte r ⌝ }
     {
         let next = Self::bare(current, self.plausible_punctuation, 0, self.longest_word);
-        if single::is_ascii_pair(self.ascii_before(part, i), part[i]) {
+        if self.is_ascii_pair(part, i) {
             return Ran::Live(next, 0);
         }
         Ran::Live(next, single::pair_score(self.prev, current, pairs))
@@ -177,7 +186,7 @@ impl Visual {
         let words = single::words_after(self.current_word_len, self.longest_word, false);
         let count = self.plausible_punctuation;
         let next = Self::bare(current, count, words.current, words.longest);
-        if single::is_ascii_pair(self.ascii_before(part, i), part[i]) {
+        if self.is_ascii_pair(part, i) {
             return Ran::Live(next, 0);
         }
         let score = single::marked_gain(self.prev, current, false, marks, pairs, weights);

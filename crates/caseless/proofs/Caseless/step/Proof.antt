@@ -1,9 +1,9 @@
--- `Caseless::step` meets its contract.
+-- `Caseless::step` meets its contract: class 255 drops out, the rest is a letter or another byte.
+use mathlib.Core.Path.{_≡_, sym, _∙_}
+use mathlib.Core.Bool.{true, false}
 use native.Mathlib.Omega.{arith}
-use Rattle.laws.specs.Sizes.{thru64}
-use Rattle.caseless.specs.Caseless.{stepOf}
 use borrow.Author.Tests.{eq-eqb, ne-eqb}
-use Rattle.single.specs.WordsLaws.{words-kept}
+use Rattle.caseless.specs.Noted.{roughOf}
 use borrow.Author.Needs.{needs}
 use Rattle.caseless.proofs.Caseless.step.Statement.{statement}
 use Rattle.caseless.proofs.Caseless.step.Tie as tie
@@ -11,45 +11,46 @@ use Rattle.caseless.proofs.Caseless.step.Tie as tie
 shared-slice-read-class : tie.Need-shared-slice-read-class
 shared-slice-read-class c = search needs
 
+cast-class : tie.Need-cast-class
+cast-class c =
+    let s = c .before .before .before .before in
+    record { fits = omega (arith, c .before .before .before .shared-slice-known .given (s .args .i) .fits) }
+
+shared-slice-read-class-2 : tie.Need-shared-slice-read-class-2
+shared-slice-read-class-2 c =
+    let s = c .before .before .before .before .before in
+    omega (arith, c .before .before .before .before .shared-slice-known .given (s .args .i) .fits, s .pre .0 .classes-length)
+
 returns : tie.Need-returns
-unfolding stepOf
+unfolding roughOf
 returns c = (rw (eq-eqb _ _ (c .if1 .taken)), tt)
 
 is-non-latin-alphabetic-requires : tie.Need-is-non-latin-alphabetic-requires
 is-non-latin-alphabetic-requires c κs = search needs
 
-words-after-requires : tie.Need-words-after-requires
-words-after-requires c κs = search needs
-
-is-ascii-pair-requires : tie.Need-is-ascii-pair-requires
-is-ascii-pair-requires c κs = search needs
-
-gain-requires : tie.Need-gain-requires
-gain-requires c κs = search needs
-
-is-ascii-requires : tie.Need-is-ascii-requires
-is-ascii-requires c κs = search needs
+letter-requires : tie.Need-letter-requires
+letter-requires c κs =
+    let a = c .before in
+    let s = a .before .before .before .before .before .before .before in
+    (s .pre .1 .0, (s .pre .1 .1 .0, sym (a .is-non-latin-alphabetic .ensures) ∙ c .if2 .taken))
 
 returns-2 : tie.Need-returns-2
-unfolding stepOf
+unfolding roughOf
 returns-2 c =
-    let g = c .before in
-    let w = g .before .before in
-    let a = w .before in
-    let s = a .before .before .before .before .before in
-    let v = words-kept (w .words-after .result) (s .args .self .«current_word_len») (s .args .self .«longest_word») (a .is-non-latin-alphabetic .result) (omega (arith, s .pre .1 .word-most)) (w .words-after .ensures) in
-    let e = thru64 (g .gain .result) 4294967296 (g .gain .ensures .1) (omega arith) in
-    (rw (ne-eqb _ _ (a .before .if1 .left), e, c .is-ascii .ensures, v .0, v .1, a .is-non-latin-alphabetic .ensures, g .gain .ensures .0, g .before .is-ascii-pair .ensures), rw e (omega (arith, g .gain .ensures .1)))
+    let a = c .before .before in
+    (rw (ne-eqb _ _ (a .before .if1 .left), sym (a .is-non-latin-alphabetic .ensures) ∙ c .before .if2 .taken) (c .letter .ensures .0), c .letter .ensures .1)
+
+other-requires : tie.Need-other-requires
+other-requires c κs =
+    let a = c .before in
+    let s = a .before .before .before .before .before .before .before in
+    (s .pre .1 .0, (s .pre .1 .1 .0, (s .pre .1 .1 .1, sym (a .is-non-latin-alphabetic .ensures) ∙ c .if2 .left)))
+
+returns-3 : tie.Need-returns-3
+unfolding roughOf
+returns-3 c =
+    let a = c .before .before in
+    (rw (ne-eqb _ _ (a .before .if1 .left), sym (a .is-non-latin-alphabetic .ensures) ∙ c .before .if2 .left) (c .other .ensures .0), c .other .ensures .1)
 
 pub step-spec : {M : Type 1} → statement M
-step-spec =
-    tie.close
-    (tie.spec
-    shared-slice-read-class
-    returns
-    is-non-latin-alphabetic-requires
-    words-after-requires
-    is-ascii-pair-requires
-    gain-requires
-    is-ascii-requires
-    returns-2)
+step-spec = tie.close (tie.spec shared-slice-read-class cast-class shared-slice-read-class-2 returns is-non-latin-alphabetic-requires letter-requires returns-2 other-requires returns-3)

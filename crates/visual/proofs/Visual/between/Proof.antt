@@ -2,26 +2,18 @@
 use mathlib.Core.Path.{_≡_, sym, _∙_}
 use mathlib.Core.Bool.{true, false}
 use native.Mathlib.Omega.{arith}
-use lib.ListN.{getD}
 use Rattle.laws.specs.Sizes.{thru64}
-use Rattle.single.specs.Pair.{asciiPair}
 use lib.Dec.{ltb}
 use borrow.Author.Tests.{le-ltb}
 use Rattle.weights.specs.Weights.{term}
 use Rattle.single.specs.Rest.{rest-gain}
-use Rattle.visual.specs.Noted.{asciiBefore}
+use Rattle.visual.specs.Noted.{pairAt}
 use borrow.Author.Needs.{needs}
 use Rattle.visual.proofs.Visual.between.Statement.{statement}
 use Rattle.visual.proofs.Visual.between.Tie as tie
 
 bare-requires : tie.Need-bare-requires
 bare-requires c κs = search needs
-
-ascii-before-requires : tie.Need-ascii-before-requires
-ascii-before-requires c κs = search needs
-
-shared-slice-read-is-ascii-pair : tie.Need-shared-slice-read-is-ascii-pair
-shared-slice-read-is-ascii-pair c = search needs
 
 is-ascii-pair-requires : tie.Need-is-ascii-pair-requires
 is-ascii-pair-requires c κs = search needs
@@ -33,10 +25,9 @@ none-longer s = le-ltb (s .args .self .«longest_word») (s .args .self .«curre
 returns : tie.Need-returns
 returns c =
     let p = c .before in
-    let a = p .before .before in
-    let n = a .before in
+    let n = p .before in
     let s = n .before .before .before in
-    let e : asciiPair (asciiBefore (s .args .part .now) (s .args .i) (s .args .self)) (getD (s .args .part .now) (s .args .i) 0) ≡ true = sym (rw (a .ascii-before .ensures) at (p .is-ascii-pair .ensures)) ∙ c .if1 .taken in
+    let e : pairAt (s .args .part .now) (s .args .i) (s .args .self) ≡ true = sym (p .is-ascii-pair .ensures) ∙ c .if1 .taken in
     (rw (n .bare .ensures, e, none-longer s), omega arith)
 
 pair-score-requires : tie.Need-pair-score-requires
@@ -45,13 +36,12 @@ pair-score-requires c κs = search needs
 returns-2 : tie.Need-returns-2
 returns-2 c =
     let p = c .before .before in
-    let a = p .before .before in
-    let n = a .before in
+    let n = p .before in
     let s = n .before .before .before in
-    let e : asciiPair (asciiBefore (s .args .part .now) (s .args .i) (s .args .self)) (getD (s .args .part .now) (s .args .i) 0) ≡ false = sym (rw (a .ascii-before .ensures) at (p .is-ascii-pair .ensures)) ∙ c .before .if1 .left in
+    let e : pairAt (s .args .part .now) (s .args .i) (s .args .self) ≡ false = sym (p .is-ascii-pair .ensures) ∙ c .before .if1 .left in
     let z = thru64 (c .pair-score .result) term (c .pair-score .ensures .1) (omega arith) in
     let q = c .pair-score .ensures .0 ∙ rest-gain (s .args .marks .now) (s .args .pairs .now) (s .args .weights .now) (s .args .self .prev) (s .args .current) (s .pre .1 .1 .0) (s .pre .1 .1 .1) in
     (rw (n .bare .ensures, z, e, none-longer s, q), rw z (omega (arith, c .pair-score .ensures .1)))
 
 pub between-spec : {M : Type 1} → statement M
-between-spec = tie.close (tie.spec bare-requires ascii-before-requires shared-slice-read-is-ascii-pair is-ascii-pair-requires returns pair-score-requires returns-2)
+between-spec = tie.close (tie.spec bare-requires is-ascii-pair-requires returns pair-score-requires returns-2)

@@ -2,12 +2,10 @@
 use mathlib.Core.Path.{_≡_, sym, _∙_}
 use mathlib.Core.Bool.{true, false}
 use native.Mathlib.Omega.{arith}
-use lib.ListN.{getD}
 use Rattle.laws.specs.Sizes.{thru64}
-use Rattle.single.specs.Pair.{asciiPair}
 use Rattle.single.specs.Rest.{restB, rest-word, marked-is}
 use Rattle.single.specs.WordsLaws.{words-kept}
-use Rattle.visual.specs.Noted.{asciiBefore}
+use Rattle.visual.specs.Noted.{pairAt}
 use borrow.Author.Needs.{needs}
 use Rattle.visual.proofs.Visual.other.Statement.{statement}
 use Rattle.visual.proofs.Visual.other.Tie as tie
@@ -30,24 +28,17 @@ words-after-requires c κs = search needs
 bare-requires : tie.Need-bare-requires
 bare-requires c κs = search needs
 
-ascii-before-requires : tie.Need-ascii-before-requires
-ascii-before-requires c κs = search needs
-
-shared-slice-read-is-ascii-pair : tie.Need-shared-slice-read-is-ascii-pair
-shared-slice-read-is-ascii-pair c = search needs
-
 is-ascii-pair-requires : tie.Need-is-ascii-pair-requires
 is-ascii-pair-requires c κs = search needs
 
 returns-2 : tie.Need-returns-2
 returns-2 c =
     let p = c .before in
-    let a = p .before .before in
-    let n = a .before in
+    let n = p .before in
     let w = n .before in
     let s = w .before .before .before .before .before in
     let v = words-kept (w .words-after .result) (s .args .self .«current_word_len») (s .args .self .«longest_word») false (omega (arith, s .pre .1 .0 .common .word-most)) (w .words-after .ensures) in
-    let e : asciiPair (asciiBefore (s .args .part .now) (s .args .i) (s .args .self)) (getD (s .args .part .now) (s .args .i) 0) ≡ true = sym (rw (a .ascii-before .ensures) at (p .is-ascii-pair .ensures)) ∙ c .if2 .taken in
+    let e : pairAt (s .args .part .now) (s .args .i) (s .args .self) ≡ true = sym (p .is-ascii-pair .ensures) ∙ c .if2 .taken in
     (rw (n .bare .ensures, e, v .0, v .1), omega arith)
 
 marked-gain-requires : tie.Need-marked-gain-requires
@@ -56,15 +47,14 @@ marked-gain-requires c κs = search needs
 returns-3 : tie.Need-returns-3
 returns-3 c =
     let p = c .before .before in
-    let a = p .before .before in
-    let n = a .before in
+    let n = p .before in
     let w = n .before in
     let s = w .before .before .before .before .before in
     let v = words-kept (w .words-after .result) (s .args .self .«current_word_len») (s .args .self .«longest_word») false (omega (arith, s .pre .1 .0 .common .word-most)) (w .words-after .ensures) in
-    let e : asciiPair (asciiBefore (s .args .part .now) (s .args .i) (s .args .self)) (getD (s .args .part .now) (s .args .i) 0) ≡ false = sym (rw (a .ascii-before .ensures) at (p .is-ascii-pair .ensures)) ∙ c .before .if2 .left in
+    let e : pairAt (s .args .part .now) (s .args .i) (s .args .self) ≡ false = sym (p .is-ascii-pair .ensures) ∙ c .before .if2 .left in
     let z = thru64 (c .marked-gain .result) 4294967296 (c .marked-gain .ensures .1) (omega arith) in
     let q = c .marked-gain .ensures .0 ∙ marked-is (s .args .marks .now) (s .args .pairs .now) (s .args .weights .now) (s .args .self .prev) (s .args .current) false (s .pre .1 .1 .1) in
     (rw (n .bare .ensures, z, e, v .0, v .1, q), rw z (omega (arith, c .marked-gain .ensures .1)))
 
 pub other-spec : {M : Type 1} → statement M
-other-spec = tie.close (tie.spec is-at-rest-requires between-requires returns words-after-requires bare-requires ascii-before-requires shared-slice-read-is-ascii-pair is-ascii-pair-requires returns-2 marked-gain-requires returns-3)
+other-spec = tie.close (tie.spec is-at-rest-requires between-requires returns words-after-requires bare-requires is-ascii-pair-requires returns-2 marked-gain-requires returns-3)
