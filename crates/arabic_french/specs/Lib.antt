@@ -1,3 +1,4 @@
 pub mod ArabicFrench
 pub mod ArabicFrenchLaws
 pub mod HeadLaws
+pub mod Noted

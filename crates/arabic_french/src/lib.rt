@@ -1,15 +1,20 @@
 // A single-byte encoding of Arabic and French, as windows-1256 is: the French letters have case, the Arabic ones make words.
 ghost use mathlib.Core.Path.{_≡_};
-ghost use Prim.Native.Nat.{_*_, _≤_};
+ghost use mathlib.Core.Bool.{true, false};
+ghost use Prim.Native.Nat.{_*_, _<_, _≤_};
 ghost use lib.IntN.{natAbs};
-ghost use lib.ListN.{length};
+ghost use lib.ListN.{length, getD};
 ghost use Rattle.laws.specs.Answer.{ran};
-ghost use Rattle.laws.specs.Run.{alive, run};
+ghost use Rattle.laws.specs.Run.{alive, live, run};
 ghost use Rattle.weights.specs.Weights.{term, perByte};
 ghost use Rattle.arabic_french.specs.ArabicFrench.{fresh, caseOf, clashOf, caseGainOf, stepOf, answerOf, ranAs, ranOf, closedOf, Sound, soundB, Bounded};
+ghost use Rattle.arabic_french.specs.Noted.{caseBefore, pairAt, noted, bare, leftBy, gainBy, latinBy, latinGainBy, roughOf};
 ghost use Rattle.laws.specs.Limit.{room};
+ghost use Rattle.single.specs.Before.{asciiBefore};
+ghost use Rattle.single.specs.Class.{alphabeticOf};
 ghost use Rattle.single.specs.Fit.{Fit};
 ghost use Rattle.single.specs.Lent.{lent, Sized};
+ghost use Rattle.single.specs.Rest.{Rests};
 
 pub enum LatinCaseState {
     Space,
@@ -99,33 +104,206 @@ impl ArabicFrench {
         }
     }
 
-    fn step(self, b: u8, classes: &[u8], marks: &[u8], pairs: &[i16], weights: &[i32]) -> Ran
-        requires { ⌜ Sized (lent (now classes) (now marks) (now pairs) (now weights)) ⌝ }
+    // Whether the byte before byte i of a part is ASCII; the record has it of the byte before the part.
+    fn ascii_before(self, part: &[u8], i: usize) -> bool
+        requires { ⌜ i ≤ length (now part) ⌝ }
+        ensures { λ r. ⌜ r ≡ asciiBefore (now (part .entry)) i (self .«prev_ascii») ⌝ }
+    {
+        if i == 0 {
+            return self.prev_ascii;
+        }
+        octets::is_ascii(part[i - 1])
+    }
+
+    // Whether byte i of a part and the one before are both ASCII.
+    fn is_ascii_pair(self, part: &[u8], i: usize) -> bool
+        requires { ⌜ i < length (now part) ⌝ }
+        ensures { λ r. ⌜ r ≡ pairAt (now (part .entry)) i self ⌝ }
+    {
+        single::is_ascii_pair(self.ascii_before(part, i), part[i])
+    }
+
+    // The case of the letters before byte i of a part. A step over no Latin letter leaves what it found, which then counts as
+    // a space.
+    fn case_before(self, i: usize) -> LatinCaseState
+        ensures { λ r. ⌜ r ≡ caseBefore i self ⌝ }
+    {
+        let case_state = self.case_state;
+        if i == 0 {
+            return case_state;
+        }
+        if self.prev == single::LATIN_LETTER {
+            return case_state;
+        }
+        LatinCaseState::Space
+    }
+
+    // The record at byte i of a part, after steps over the bytes before.
+    fn noted(self, part: &[u8], i: usize) -> ArabicFrench
+        requires { ⌜ i ≤ length (now part) ⌝ }
+        ensures { λ r. ⌜ r ≡ noted (now (part .entry)) i self ⌝ }
+    {
+        ArabicFrench {
+            prev: self.prev,
+            case_state: self.case_before(i),
+            prev_ascii: self.ascii_before(part, i),
+            current_word_len: self.current_word_len,
+            longest_word: self.longest_word,
+        }
+    }
+
+    // What a step leaves. Its flag is left for `noted` to find from the byte, where it is asked.
+    fn bare(prev: u8, case_state: LatinCaseState, word: u64, longest: u64) -> ArabicFrench
+        ensures { λ r. ⌜ r ≡ bare prev «case_state» word longest ⌝ }
+    {
+        ArabicFrench {
+            prev,
+            case_state,
+            prev_ascii: false,
+            current_word_len: word,
+            longest_word: longest,
+        }
+    }
+
+    // A byte of an alphabetic class but the Latin letter's.
+    fn letter(
+        self,
+        part: &[u8],
+        i: usize,
+        current: u8,
+        marks: &[u8],
+        pairs: &[i16],
+        weights: &[i32],
+    ) -> Ran
+        requires { ⌜ i < length (now part) ⌝ }
         requires { ⌜ Sound (2 * room) self ⌝ }
-        ensures { λ r. ⌜ answerOf r ≡ ran (stepOf (lent (now (classes .entry)) (now (marks .entry)) (now (pairs .entry)) (now (weights .entry))) self b) ⌝ }
+        requires { ⌜ alphabeticOf (now marks) current ≡ true ⌝ }
+        ensures { λ r. ⌜ answerOf r ≡ ran (live (leftBy self (self .«case_state») current true) (gainBy (now (marks .entry)) (now (pairs .entry)) (now (weights .entry)) (noted (now (part .entry)) i self) (getD (now (part .entry)) i 0) current)) ⌝ }
         ensures { λ r. ⌜ Bounded perByte r ⌝ }
     {
-        let class = classes[b as usize];
+        let words = single::words_after(self.current_word_len, self.longest_word, true);
+        let case_state = self.case_state;
+        let next = Self::bare(current, case_state, words.current, words.longest);
+        if self.is_ascii_pair(part, i) {
+            return Ran::Live(next, 0);
+        }
+        let score = single::marked_gain(self.prev, current, true, marks, pairs, weights);
+        Ran::Live(next, score)
+    }
+
+    // A byte between words, and so is the one before: no word ends, and none is beside a Latin letter.
+    fn between(
+        self,
+        part: &[u8],
+        i: usize,
+        current: u8,
+        marks: &[u8],
+        pairs: &[i16],
+        weights: &[i32],
+    ) -> Ran
+        requires { ⌜ i < length (now part) ⌝ }
+        requires { ⌜ self .«current_word_len» ≡ 0 ⌝ }
+        requires { ⌜ alphabeticOf (now marks) (self .prev) ≡ false ⌝ }
+        requires { ⌜ alphabeticOf (now marks) current ≡ false ⌝ }
+        ensures { λ r. ⌜ answerOf r ≡ ran (live (leftBy self (self .«case_state») current false) (gainBy (now (marks .entry)) (now (pairs .entry)) (now (weights .entry)) (noted (now (part .entry)) i self) (getD (now (part .entry)) i 0) current)) ⌝ }
+        ensures { λ r. ⌜ Bounded perByte r ⌝ }
+    {
+        let case_state = self.case_state;
+        let next = Self::bare(current, case_state, 0, self.longest_word);
+        if self.is_ascii_pair(part, i) {
+            return Ran::Live(next, 0);
+        }
+        Ran::Live(next, single::pair_score(self.prev, current, pairs))
+    }
+
+    // A byte of any other class.
+    fn other(
+        self,
+        part: &[u8],
+        i: usize,
+        current: u8,
+        marks: &[u8],
+        pairs: &[i16],
+        weights: &[i32],
+    ) -> Ran
+        requires { ⌜ i < length (now part) ⌝ }
+        requires { ⌜ Sound (2 * room) self ⌝ }
+        requires { ⌜ Rests (now marks) i (self .«current_word_len») (self .prev) ⌝ }
+        requires { ⌜ alphabeticOf (now marks) current ≡ false ⌝ }
+        ensures { λ r. ⌜ answerOf r ≡ ran (live (leftBy self (self .«case_state») current false) (gainBy (now (marks .entry)) (now (pairs .entry)) (now (weights .entry)) (noted (now (part .entry)) i self) (getD (now (part .entry)) i 0) current)) ⌝ }
+        ensures { λ r. ⌜ Bounded perByte r ⌝ }
+    {
+        if single::is_at_rest(i, self.current_word_len) {
+            return self.between(part, i, current, marks, pairs, weights);
+        }
+        let words = single::words_after(self.current_word_len, self.longest_word, false);
+        let case_state = self.case_state;
+        let next = Self::bare(current, case_state, words.current, words.longest);
+        if self.is_ascii_pair(part, i) {
+            return Ran::Live(next, 0);
+        }
+        let score = single::marked_gain(self.prev, current, false, marks, pairs, weights);
+        Ran::Live(next, score)
+    }
+
+    // A Latin letter.
+    fn latin(
+        self,
+        part: &[u8],
+        i: usize,
+        class: u8,
+        marks: &[u8],
+        pairs: &[i16],
+        weights: &[i32],
+    ) -> Ran
+        requires { ⌜ i < length (now part) ⌝ }
+        requires { ⌜ Sound (2 * room) self ⌝ }
+        ensures { λ r. ⌜ answerOf r ≡ ran (live (latinBy (now (marks .entry)) (noted (now (part .entry)) i self) class) (latinGainBy (now (marks .entry)) (now (pairs .entry)) (now (weights .entry)) (noted (now (part .entry)) i self) (getD (now (part .entry)) i 0) class)) ⌝ }
+        ensures { λ r. ⌜ Bounded perByte r ⌝ }
+    {
+        let current = single::LATIN_LETTER;
+        let alphabetic = single::is_non_latin_alphabetic(marks, current);
+        let words = single::words_after(self.current_word_len, self.longest_word, alphabetic);
+        let before = self.case_before(i);
+        let after = before.after_class(class);
+        let next = Self::bare(current, after, words.current, words.longest);
+        if self.is_ascii_pair(part, i) {
+            return Ran::Live(next, 0);
+        }
+        let pair = single::marked_gain(self.prev, current, alphabetic, marks, pairs, weights);
+        let score = pair + before.gain(false, class, weights);
+        Ran::Live(next, score)
+    }
+
+    // Byte i of a part.
+    fn step(
+        self,
+        part: &[u8],
+        i: usize,
+        classes: &[u8],
+        marks: &[u8],
+        pairs: &[i16],
+        weights: &[i32],
+    ) -> Ran
+        requires { ⌜ Sized (lent (now classes) (now marks) (now pairs) (now weights)) ⌝ }
+        requires { ⌜ i < length (now part) ⌝ }
+        requires { ⌜ Sound (2 * room) self ⌝ }
+        requires { ⌜ Rests (now marks) i (self .«current_word_len») (self .prev) ⌝ }
+        ensures { λ r. ⌜ answerOf r ≡ ran (roughOf (lent (now (classes .entry)) (now (marks .entry)) (now (pairs .entry)) (now (weights .entry))) (noted (now (part .entry)) i self) (self .«case_state») (getD (now (part .entry)) i 0)) ⌝ }
+        ensures { λ r. ⌜ Bounded perByte r ⌝ }
+    {
+        let class = classes[part[i] as usize];
         if class == single::NO_CLASS {
             return Ran::Dropped;
         }
-        let caseless_class = class % Self::CLASSES;
-        let alphabetic = single::is_non_latin_alphabetic(marks, caseless_class);
-        let words = single::words_after(self.current_word_len, self.longest_word, alphabetic);
-        let ascii_pair = single::is_ascii_pair(self.prev_ascii, b);
-        let pair = single::gain(ascii_pair, self.prev, caseless_class, marks, pairs, weights);
-        let case_state = self.case_state;
-        let score = pair + case_state.gain(ascii_pair, class, weights);
-        Ran::Live(
-            ArabicFrench {
-                prev: caseless_class,
-                case_state: case_state.after_class(class),
-                prev_ascii: octets::is_ascii(b),
-                current_word_len: words.current,
-                longest_word: words.longest,
-            },
-            score,
-        )
+        let current = class % Self::CLASSES;
+        if current == single::LATIN_LETTER {
+            return self.latin(part, i, class, marks, pairs, weights);
+        }
+        if single::is_non_latin_alphabetic(marks, current) {
+            return self.letter(part, i, current, marks, pairs, weights);
+        }
+        self.other(part, i, current, marks, pairs, weights)
     }
 
     fn run_fit(
@@ -144,7 +322,7 @@ impl ArabicFrench {
         let mut score: i64 = 0;
         let mut i = 0;
         while i < part.len() {
-            match m.step(part[i], classes, marks, pairs, weights) {
+            match m.step(part, i, classes, marks, pairs, weights) {
                 Ran::Live(next, gain) => {
                     m = next;
                     score = score + gain;
@@ -158,7 +336,7 @@ impl ArabicFrench {
             }
             i += 1;
         }
-        Ran::Live(m, score)
+        Ran::Live(m.noted(part, i), score)
     }
 
     // Whether no bound of n bytes excludes the record.
