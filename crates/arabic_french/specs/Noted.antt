@@ -1,13 +1,13 @@
 -- The code's own step. It leaves the flag of its byte to be found from the byte itself, and the case of the letters as it was
 -- where the byte is no Latin letter, since that is found from the class. No public contract cites it.
-use mathlib.Core.Path.{_≡_, refl, sym, ap, _∙_}
+use mathlib.Core.Path.{_≡_, refl, sym}
 use mathlib.Core.Bool.{Bool, true, false, cond}
 use mathlib.Core.List.{List}
 use Prim.Native.Nat.{ℕ, _+_}
 use lib.Dec.{eqb}
 use lib.IntN.{ℤ, pos, _+ℤ_, +ℤ-idr}
 use lib.ListN.{getD}
-use borrow.Author.Tests.{eq-eqb, ne-eqb}
+use borrow.Author.Tests.{ne-eqb}
 use Rattle.laws.specs.Run.{Outcome, live, none, dropped, Dropout}
 use Rattle.octets.specs.Octets.{ascii}
 use Rattle.single.specs.Before.{asciiBefore, not-first, one-back}

@@ -74,13 +74,11 @@ impl LatinCaseState {
         }
     }
 
-    fn gain(self, ascii_pair: bool, class: u8, weights: &[i32]) -> i64
-        ensures { λ r. ⌜ r ≡ caseGainOf (now (weights .entry)) «ascii_pair» self class ⌝ }
+    // By what a letter changes the score, unless both bytes are ASCII.
+    fn gain(self, class: u8, weights: &[i32]) -> i64
+        ensures { λ r. ⌜ r ≡ caseGainOf (now (weights .entry)) false self class ⌝ }
         ensures { λ r. ⌜ natAbs r ≤ term ⌝ }
     {
-        if ascii_pair {
-            return 0;
-        }
         if self.clashes(class) {
             return weights::weight(weights, weights::CASE);
         }
@@ -271,7 +269,7 @@ impl ArabicFrench {
             return Ran::Live(next, 0);
         }
         let pair = single::marked_gain(self.prev, current, alphabetic, marks, pairs, weights);
-        let score = pair + before.gain(false, class, weights);
+        let score = pair + before.gain(class, weights);
         Ran::Live(next, score)
     }
 

@@ -19,12 +19,8 @@ use Rattle.single.proofs.is_ascii_pair.Kinds as is-ascii-pair-kinds
 use Rattle.single.proofs.is_ascii_pair.Reads as is-ascii-pair-reads
 use Rattle.single.proofs.pair_score.Kinds as pair-score-kinds
 use Rattle.single.proofs.pair_score.Reads as pair-score-reads
-use Rattle.single.proofs.pair_gain.Kinds as pair-gain-kinds
-use Rattle.single.proofs.pair_gain.Reads as pair-gain-reads
 use Rattle.single.proofs.marked_gain.Kinds as marked-gain-kinds
 use Rattle.single.proofs.marked_gain.Reads as marked-gain-reads
-use Rattle.single.proofs.gain.Kinds as gain-kinds
-use Rattle.single.proofs.gain.Reads as gain-reads
 
 pub is-common : Determined 0 is-common-kinds.ps is-common-kinds.r is-common-reads.Asked is-common-reads.Learnt
 is-common = record { total = λ κs a. tt; one = λ κs a z z′ w w′ p q. (same p q, refl) }
@@ -53,11 +49,5 @@ is-ascii-pair = record { total = λ κs a. tt; one = λ κs a z z′ w w′ p q.
 pub pair-score : Determined 1 pair-score-kinds.ps pair-score-kinds.r pair-score-reads.Asked pair-score-reads.Learnt
 pair-score = record { total = λ κs a. tt; one = λ κs a z z′ w w′ p q. (same (p .0) (q .0), refl) }
 
-pub pair-gain : Determined 3 pair-gain-kinds.ps pair-gain-kinds.r pair-gain-reads.Asked pair-gain-reads.Learnt
-pair-gain = record { total = λ κs a. tt; one = λ κs a z z′ w w′ p q. (same (p .0) (q .0), refl) }
-
 pub marked-gain : Determined 3 marked-gain-kinds.ps marked-gain-kinds.r marked-gain-reads.Asked marked-gain-reads.Learnt
 marked-gain = record { total = λ κs a. tt; one = λ κs a z z′ w w′ p q. (same (p .0) (q .0), refl) }
-
-pub gain : Determined 3 gain-kinds.ps gain-kinds.r gain-reads.Asked gain-reads.Learnt
-gain = record { total = λ κs a. tt; one = λ κs a z z′ w w′ p q. (same (p .0) (q .0), refl) }

@@ -8,7 +8,6 @@ pub mod FitLaws
 pub mod HeadLaws
 pub mod Lent
 pub mod Pair
-pub mod PairLaws
 pub mod Punctuation
 pub mod Rest
 pub mod Words

@@ -1,13 +1,12 @@
 // What the four single-byte machines have in common: class, word length, pair score, adjacency, and the test of what is lent.
 ghost use mathlib.Core.Path.{_≡_};
-ghost use mathlib.Core.Bool.{cond};
 ghost use Prim.Native.Nat.{_*_, _≤_};
-ghost use lib.IntN.{pos, natAbs};
+ghost use lib.IntN.{natAbs};
 ghost use Rattle.weights.specs.Weights.{term};
 ghost use Rattle.single.specs.Class.{alphabeticOf};
 ghost use Rattle.single.specs.Fit.{commonB, fitB};
 ghost use Rattle.single.specs.Lent.{lent, sizedB};
-ghost use Rattle.single.specs.Pair.{asciiPair, adjacentOf, besideOf, pairScore, pairGainOf, markedGainOf};
+ghost use Rattle.single.specs.Pair.{asciiPair, besideOf, pairScore, markedGainOf};
 ghost use Rattle.single.specs.Punctuation.{punctuationOf, countOf};
 ghost use Rattle.single.specs.Rest.{restB};
 ghost use Rattle.single.specs.Words.{in64, wordsOf};
@@ -123,20 +122,7 @@ pub fn is_ascii_pair(prev_ascii: bool, b: u8) -> bool
     false
 }
 
-// Whether a Latin letter and a non-Latin alphabetic class stand side by side.
-fn is_adjacent(prev: u8, current: u8, marks: &[u8]) -> bool
-    ensures { λ r. ⌜ r ≡ adjacentOf (now (marks .entry)) prev current ⌝ }
-{
-    if prev == LATIN_LETTER {
-        return is_non_latin_alphabetic(marks, current);
-    }
-    if current == LATIN_LETTER {
-        return is_non_latin_alphabetic(marks, prev);
-    }
-    false
-}
-
-// The same, where the caller knows whether `current` is alphabetic.
+// Whether a Latin letter and a non-Latin alphabetic class stand side by side, where it is known whether `current` is alphabetic.
 fn is_beside(prev: u8, current: u8, alphabetic: bool, marks: &[u8]) -> bool
     ensures { λ r. ⌜ r ≡ besideOf (now (marks .entry)) alphabetic prev current ⌝ }
 {
@@ -161,19 +147,8 @@ pub fn pair_score(prev: u8, current: u8, pairs: &[i16]) -> i64
     0
 }
 
-// The pair score of `current` after `prev`, with the adjacency weight where it applies.
-pub fn pair_gain(prev: u8, current: u8, marks: &[u8], pairs: &[i16], weights: &[i32]) -> i64
-    ensures { λ r. ⌜ r ≡ pairGainOf (now (marks .entry)) (now (pairs .entry)) (now (weights .entry)) prev current ⌝ }
-    ensures { λ r. ⌜ natAbs r ≤ 2 * term ⌝ }
-{
-    let pair = pair_score(prev, current, pairs);
-    if is_adjacent(prev, current, marks) {
-        return pair + weights::weight(weights, weights::LATIN_ADJACENCY);
-    }
-    pair
-}
-
-// The same for a caller that knows whether `current` is alphabetic.
+// The pair score of `current` after `prev`, with the adjacency weight where it applies, for a caller that knows whether `current`
+// is alphabetic.
 pub fn marked_gain(
     prev: u8,
     current: u8,
@@ -190,22 +165,4 @@ pub fn marked_gain(
         return score + weights::weight(weights, weights::LATIN_ADJACENCY);
     }
     score
-}
-
-// By what a byte of that class changes the score, but for the case weight.
-pub fn gain(
-    ascii_pair: bool,
-    prev: u8,
-    current: u8,
-    marks: &[u8],
-    pairs: &[i16],
-    weights: &[i32],
-) -> i64
-    ensures { λ r. ⌜ r ≡ cond «ascii_pair» (pos 0) (pairGainOf (now (marks .entry)) (now (pairs .entry)) (now (weights .entry)) prev current) ⌝ }
-    ensures { λ r. ⌜ natAbs r ≤ 2 * term ⌝ }
-{
-    if ascii_pair {
-        return 0;
-    }
-    pair_gain(prev, current, marks, pairs, weights)
 }

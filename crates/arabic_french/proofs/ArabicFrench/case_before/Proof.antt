@@ -1,5 +1,4 @@
 -- `ArabicFrench::case_before` meets its contract.
-use borrow.Author.Needs.{needs}
 use borrow.Author.Tests.{eq-eqb, ne-eqb}
 use Rattle.arabic_french.proofs.ArabicFrench.case_before.Statement.{statement}
 use Rattle.arabic_french.proofs.ArabicFrench.case_before.Tie as tie

@@ -1,6 +1,5 @@
 -- `ArabicFrench::step` meets its contract: class 255 drops out, the rest is a Latin letter, another letter or another byte.
-use mathlib.Core.Path.{_≡_, sym, ap, _∙_}
-use mathlib.Core.List.{List}
+use mathlib.Core.Path.{sym, ap, _∙_}
 use Prim.Native.Nat.{ℕ}
 use native.Mathlib.Omega.{arith}
 use lib.ListN.{getD}

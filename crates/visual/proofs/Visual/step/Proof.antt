@@ -1,6 +1,5 @@
 -- `Visual::step` meets its contract: class 255 drops out, the rest is a letter or another byte.
-use mathlib.Core.Path.{_≡_, sym, _∙_}
-use mathlib.Core.Bool.{true, false}
+use mathlib.Core.Path.{sym, _∙_}
 use native.Mathlib.Omega.{arith}
 use borrow.Author.Tests.{eq-eqb, ne-eqb}
 use Rattle.visual.specs.Noted.{roughOf}
