@@ -12,7 +12,7 @@ use lengths::MARKS;
 use lengths::PAIRS;
 use lengths::WEIGHTS;
 use libc::STDIN_FILENO;
-use reader::entries;
+use reader::fill;
 
 // The tables of the four single-byte places, from place 4 on.
 pub(crate) type Classes = [[u8; CLASSES]; 4];
@@ -35,9 +35,9 @@ fn single(bytes: &[u8], k: usize, classes: &mut Classes, marks: &mut Marks, pair
     requires { ⌜ (k < 4) × (length (now bytes) ≡ 365252) ⌝ }
 {
     let at = SINGLE * k;
-    entries::octets(&bytes[at..], &mut classes[k]);
-    entries::octets(&bytes[at + CLASSES..], &mut marks[k]);
-    entries::halves(&bytes[at + CLASSES + MARKS..], &mut pairs[k]);
+    fill::octets(&bytes[at..], &mut classes[k]);
+    fill::octets(&bytes[at + CLASSES..], &mut marks[k]);
+    fill::halves(&bytes[at + CLASSES + MARKS..], &mut pairs[k]);
 }
 
 // What follows the tables of the single-byte places.
@@ -49,9 +49,9 @@ fn rest(
 )
     requires { ⌜ length (now bytes) ≡ 365252 ⌝ }
 {
-    entries::words(&bytes[SINGLES..], indexes);
-    entries::halves(&bytes[SINGLES + 4 * INDEXES..], extras);
-    entries::signed_words(&bytes[LENT - 4 * WEIGHTS..], weights);
+    fill::words(&bytes[SINGLES..], indexes);
+    fill::halves(&bytes[SINGLES + 4 * INDEXES..], extras);
+    fill::signed_words(&bytes[LENT - 4 * WEIGHTS..], weights);
 }
 
 // Answers whether there was as much as that.

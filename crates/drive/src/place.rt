@@ -5,18 +5,12 @@ use libc::STDOUT_FILENO;
 use places::place::Place;
 use places::place::Score;
 
-// The sum of a score and its change, which stay far below the ends of 64 bits.
-fn sum(score: i64, change: i64) -> i64 {
-    let bits = std::num::wrapping_add_u64(signed::bits(score), signed::bits(change));
-    signed::of_bits64(bits)
-}
-
 // A machine that refuses says so in a line, which no answer of the Rust has.
 fn settled(machine: Machine, before: i64, ran: Ran) -> Place {
     if let Ran::Live(next, change) = ran {
         return Place {
             machine: next,
-            score: Score::Live(sum(before, change)),
+            score: Score::Live(signed::sum(before, change)),
         };
     }
     if let Ran::Unfit = ran {

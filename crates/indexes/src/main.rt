@@ -7,7 +7,7 @@ ghost use mathlib.Core.Path.{_≡_};
 ghost use Prim.Native.Nat.{_+_, _^_, _<_, _≤_};
 ghost use lib.ListN.{length};
 use libc::STDOUT_FILENO;
-use reader::entries;
+use reader::fill;
 
 // What a stretch of an index holds.
 struct Tally {
@@ -93,7 +93,7 @@ fn read(path: &[u8], index: &mut [u32]) -> usize
     let mut bytes = [0u8; 98304];
     let n = io::read_full(fd, &mut bytes);
     libc::close(fd);
-    entries::words(&bytes[..n], index);
+    fill::words(&bytes[..n], index);
     n / 4
 }
 

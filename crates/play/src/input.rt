@@ -4,7 +4,7 @@ ghost use mathlib.Core.Path.{_≡_};
 ghost use Prim.Native.Nat.{_+_, _-_, _≤_};
 ghost use lib.ListN.{length};
 ghost use Rattle.play.specs.Within.{Within, Filled};
-use reader::entries;
+use reader::fill;
 
 // Where the bytes at hand begin and end in the window; `whole` until more were wanted than the input has.
 pub(crate) struct Span {
@@ -117,7 +117,7 @@ pub(crate) fn octets(window: &mut [u8], span: Span, to: &mut [u8]) -> Span
     let s = fill(window, span, want);
     let at = s.at;
     if s.whole {
-        entries::octets(&window[at..at + want], to);
+        fill::octets(&window[at..at + want], to);
         return s.past(want);
     }
     s
@@ -134,7 +134,7 @@ pub(crate) fn halves(window: &mut [u8], span: Span, to: &mut [i16]) -> Span
     let s = fill(window, span, want);
     let at = s.at;
     if s.whole {
-        entries::halves(&window[at..at + want], to);
+        fill::halves(&window[at..at + want], to);
         return s.past(want);
     }
     s
@@ -151,7 +151,7 @@ pub(crate) fn words(window: &mut [u8], span: Span, to: &mut [u32]) -> Span
     let s = fill(window, span, want);
     let at = s.at;
     if s.whole {
-        entries::words(&window[at..at + want], to);
+        fill::words(&window[at..at + want], to);
         return s.past(want);
     }
     s
@@ -168,7 +168,7 @@ pub(crate) fn signed_words(window: &mut [u8], span: Span, to: &mut [i32]) -> Spa
     let s = fill(window, span, want);
     let at = s.at;
     if s.whole {
-        entries::signed_words(&window[at..at + want], to);
+        fill::signed_words(&window[at..at + want], to);
         return s.past(want);
     }
     s

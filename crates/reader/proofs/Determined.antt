@@ -10,14 +10,14 @@ use Rattle.reader.proofs.number.four.Kinds as four-kinds
 use Rattle.reader.proofs.number.four.Reads as four-reads
 use Rattle.reader.proofs.number.eight.Kinds as eight-kinds
 use Rattle.reader.proofs.number.eight.Reads as eight-reads
-use Rattle.reader.proofs.entries.octets.Kinds as octets-kinds
-use Rattle.reader.proofs.entries.octets.Reads as octets-reads
-use Rattle.reader.proofs.entries.halves.Kinds as halves-kinds
-use Rattle.reader.proofs.entries.halves.Reads as halves-reads
-use Rattle.reader.proofs.entries.words.Kinds as words-kinds
-use Rattle.reader.proofs.entries.words.Reads as words-reads
-use Rattle.reader.proofs.entries.signed_words.Kinds as signed-words-kinds
-use Rattle.reader.proofs.entries.signed_words.Reads as signed-words-reads
+use Rattle.reader.proofs.fill.octets.Kinds as octets-kinds
+use Rattle.reader.proofs.fill.octets.Reads as octets-reads
+use Rattle.reader.proofs.fill.halves.Kinds as halves-kinds
+use Rattle.reader.proofs.fill.halves.Reads as halves-reads
+use Rattle.reader.proofs.fill.words.Kinds as words-kinds
+use Rattle.reader.proofs.fill.words.Reads as words-reads
+use Rattle.reader.proofs.fill.signed_words.Kinds as signed-words-kinds
+use Rattle.reader.proofs.fill.signed_words.Reads as signed-words-reads
 use Rattle.reader.proofs.command.read.Kinds as read-kinds
 use Rattle.reader.proofs.command.read.Reads as read-reads
 

@@ -5,7 +5,7 @@ ghost use mathlib.Core.Path.{_≡_};
 use iso2022jp::Iso2022Jp;
 use iso2022jp::Ran;
 use lengths::JIS;
-use reader::entries;
+use reader::fill;
 use tally::Counts;
 
 fn machine(part: &[u8], index: &[u32]) -> u8 {
@@ -180,7 +180,7 @@ fn main() {
     libc::close(file);
     tally::print_count(b"bytes of the index ", got as u64);
     let mut index = [0u32; JIS];
-    entries::words(&bytes, &mut index);
+    fill::words(&bytes, &mut index);
     tally::print_count(b", mapped ", mapped(&index));
     tally::print_word(b"\n");
     print_sweeps(&index);

@@ -9,8 +9,8 @@ use borrow.Author.Needs.{needs}
 use Rattle.laws.specs.Sizes.{thru}
 use Rattle.reader.specs.Fill.{fill, halfAt}
 use Rattle.reader.specs.FillLaws.{soFar, fill-turn, fill-short, fill-done}
-use Rattle.reader.proofs.entries.halves.Statement.{statement}
-use Rattle.reader.proofs.entries.halves.Tie as tie
+use Rattle.reader.proofs.fill.halves.Statement.{statement}
+use Rattle.reader.proofs.fill.halves.Tie as tie
 
 abbrev Inv-loop : tie.InvT-loop
 Inv-loop from to₀ i₀ at₀ to i at = (i ≤ length to) × ((length to ≡ length to₀) × ((at ≤ length from) × (soFar 2 halfAt from at to i ≡ fill 2 halfAt from to₀)))
