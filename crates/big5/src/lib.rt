@@ -320,7 +320,7 @@ fn after_byte(lead: u8, b: u8, s: Scored) -> Stepped
             lead,
             prev,
             prev_byte: b,
-            held,
+            held: held.kept(),
         },
         s.gain,
     )
@@ -394,7 +394,7 @@ impl Big5 {
                 lead,
                 prev,
                 prev_byte: b,
-                held,
+                held: held.kept(),
             },
             0,
         )

@@ -455,7 +455,7 @@ fn after_byte(lead: u8, b: u8, s: Scored) -> Stepped
             prev_was_euc_range: is_euc(b),
             prev,
             current_word_len: s.word,
-            held,
+            held: held.kept(),
         },
         s.gain,
     )
@@ -511,7 +511,7 @@ impl EucKr {
                 prev_was_euc_range: is_euc(b),
                 prev,
                 current_word_len: self.current_word_len,
-                held,
+                held: held.kept(),
             },
             0,
         )

@@ -15,6 +15,8 @@ use Rattle.pairs.proofs.is_held_lead.Kinds as is-held-lead-kinds
 use Rattle.pairs.proofs.is_held_lead.Reads as is-held-lead-reads
 use Rattle.pairs.proofs.is_letter.Kinds as is-letter-kinds
 use Rattle.pairs.proofs.is_letter.Reads as is-letter-reads
+use Rattle.pairs.proofs.Held.kept.Kinds as kept-kinds
+use Rattle.pairs.proofs.Held.kept.Reads as kept-reads
 use Rattle.pairs.proofs.Held.released.Kinds as released-kinds
 use Rattle.pairs.proofs.Held.released.Reads as released-reads
 use Rattle.pairs.proofs.Held.is_small.Kinds as is-small-kinds
@@ -40,6 +42,9 @@ is-held-lead = record { total = λ κs a. tt; one = λ κs a z z′ w w′ p q. 
 
 pub is-letter : Determined 0 is-letter-kinds.ps is-letter-kinds.r is-letter-reads.Asked is-letter-reads.Learnt
 is-letter = record { total = λ κs a. tt; one = λ κs a z z′ w w′ p q. (same p q, refl) }
+
+pub kept : Determined 0 kept-kinds.ps kept-kinds.r kept-reads.Asked kept-reads.Learnt
+kept = record { total = λ κs a. tt; one = λ κs a z z′ w w′ p q. (same p q, refl) }
 
 pub released : Determined 0 released-kinds.ps released-kinds.r released-reads.Asked released-reads.Learnt
 released = record { total = λ κs a. tt; one = λ κs a z z′ w w′ p q. (same p q, refl) }

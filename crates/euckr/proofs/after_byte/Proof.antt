@@ -1,6 +1,5 @@
 -- `after_byte` meets its contract.
 use mir.Syntax.{w64}
-use borrow.Author.Needs.{needs}
 use Rattle.laws.specs.Sizes.{thru}
 use borrow.Author.Needs.{needs}
 use Rattle.euckr.proofs.after_byte.Statement.{statement}
@@ -9,8 +8,11 @@ use Rattle.euckr.proofs.after_byte.Tie as tie
 is-euc-requires : tie.Need-is-euc-requires
 is-euc-requires c κs = search needs
 
+kept-requires : tie.Need-kept-requires
+kept-requires c κs = search needs
+
 returns : tie.Need-returns
-returns c = rw (c .before .is-euc .ensures, thru w64 (c .before .before .args .s .gain) (search needs))
+returns c = rw (c .before .before .is-euc .ensures, c .before .kept .ensures, thru w64 (c .before .before .before .args .s .gain) (search needs))
 
 pub after-byte-spec : {M : Type 1} → statement M
-after-byte-spec = tie.close (tie.spec is-euc-requires returns)
+after-byte-spec = tie.close (tie.spec is-euc-requires kept-requires returns)
