@@ -2,14 +2,15 @@
 ghost use mathlib.Core.Bool.{false};
 ghost use mathlib.Core.Path.{_≡_};
 ghost use Rattle.tables.specs.Tables.{tables};
-ghost use Rattle.state.specs.Order.{InOrder};
-ghost use Rattle.detector.specs.Feed.{verdictOf, accepted, advanceOf, feedOf};
-ghost use Rattle.detector.specs.Kept.{Passed, StaysIn};
+ghost use Rattle.detector.specs.Feed.{verdictOf, accepted, feedOf};
+ghost use Rattle.detector.specs.Kept.{StaysIn};
 use crate::front;
 use crate::front::Due;
 use places::order;
+use places::place::Slate;
 use places::slate;
 use state::State;
+use state::front::Front;
 use state::reply::Reply;
 use tables;
 
@@ -45,110 +46,11 @@ fn judged(state: State, sized: bool, bytes: usize) -> Verdict
     Verdict::Accept
 }
 
-fn advance(
-    state: State,
-    chunk: &[u8],
-    last: bool,
-    classes4: &[u8],
-    marks4: &[u8],
-    pairs4: &[i16],
-    classes5: &[u8],
-    marks5: &[u8],
-    pairs5: &[i16],
-    classes6: &[u8],
-    marks6: &[u8],
-    pairs6: &[i16],
-    classes7: &[u8],
-    marks7: &[u8],
-    pairs7: &[i16],
-    big5: &[u32],
-    euckr: &[u32],
-    jis: &[u32],
-    extras: &[i16],
-    weights: &[i32],
-) -> State
-    requires { ⌜ Passed (tables (now classes4) (now marks4) (now pairs4) (now classes5) (now marks5) (now pairs5) (now classes6) (now marks6) (now pairs6) (now classes7) (now marks7) (now pairs7) (now big5) (now euckr) (now jis) (now extras) (now weights)) state (now chunk) ⌝ }
-    ensures { λ r. ⌜ r ≡ advanceOf (tables (now (classes4 .entry)) (now (marks4 .entry)) (now (pairs4 .entry)) (now (classes5 .entry)) (now (marks5 .entry)) (now (pairs5 .entry)) (now (classes6 .entry)) (now (marks6 .entry)) (now (pairs6 .entry)) (now (classes7 .entry)) (now (marks7 .entry)) (now (pairs7 .entry)) (now (big5 .entry)) (now (euckr .entry)) (now (jis .entry)) (now (extras .entry)) (now (weights .entry))) state (now (chunk .entry)) last ⌝ }
-    ensures { λ r. ⌜ InOrder r ⌝ }
+fn accepted(front: Front, places: Slate) -> Fed
+    ensures { λ r. ⌜ r ≡ accepted (record { front = front; places = places }) ⌝ }
 {
-    let front = state.front;
-    let places = state.places;
-    let trigger = front::trigger_in(front, chunk);
-    let next = front::uncounted(front, trigger, chunk, last);
-    match front::due_by(front, trigger) {
-        Due::Nothing => State {
-            front: next,
-            places,
-        },
-        Due::Part(from) => {
-            let part = &chunk[from..];
-            let fed = slate::feed(
-                places,
-                part,
-                last,
-                classes4,
-                marks4,
-                pairs4,
-                classes5,
-                marks5,
-                pairs5,
-                classes6,
-                marks6,
-                pairs6,
-                classes7,
-                marks7,
-                pairs7,
-                big5,
-                euckr,
-                jis,
-                extras,
-                weights,
-            );
-            State {
-                front: front::counted(next, part),
-                places: fed,
-            }
-        }
-        Due::After(count) => {
-            let context = front.context;
-            let saved = context.bytes();
-            let fed = slate::feed_after(
-                places,
-                &saved[..count],
-                chunk,
-                last,
-                classes4,
-                marks4,
-                pairs4,
-                classes5,
-                marks5,
-                pairs5,
-                classes6,
-                marks6,
-                pairs6,
-                classes7,
-                marks7,
-                pairs7,
-                big5,
-                euckr,
-                jis,
-                extras,
-                weights,
-            );
-            State {
-                front: front::counted(next, chunk),
-                places: fed,
-            }
-        }
-    }
-}
-
-fn accepted(state: State) -> Fed
-    ensures { λ r. ⌜ r ≡ accepted state ⌝ }
-{
-    let front = state.front;
     Fed {
-        state,
+        state: State { front, places },
         reply: Reply::Accepted(front.flag()),
     }
 }
@@ -200,27 +102,68 @@ pub fn feed(
     );
     match judged(state, sized, chunk.len()) {
         Verdict::Refuse(reply) => Fed { state, reply },
-        Verdict::Accept => accepted(advance(
-            state,
-            chunk,
-            last,
-            classes4,
-            marks4,
-            pairs4,
-            classes5,
-            marks5,
-            pairs5,
-            classes6,
-            marks6,
-            pairs6,
-            classes7,
-            marks7,
-            pairs7,
-            big5,
-            euckr,
-            jis,
-            extras,
-            weights,
-        )),
+        Verdict::Accept => {
+            let front = state.front;
+            let places = state.places;
+            let trigger = front::trigger_in(front, chunk);
+            let next = front::uncounted(front, trigger, chunk, last);
+            match front::due_by(front, trigger) {
+                Due::Nothing => accepted(next, places),
+                Due::Part(from) => {
+                    let part = &chunk[from..];
+                    let fed = slate::feed(
+                        places,
+                        part,
+                        last,
+                        classes4,
+                        marks4,
+                        pairs4,
+                        classes5,
+                        marks5,
+                        pairs5,
+                        classes6,
+                        marks6,
+                        pairs6,
+                        classes7,
+                        marks7,
+                        pairs7,
+                        big5,
+                        euckr,
+                        jis,
+                        extras,
+                        weights,
+                    );
+                    accepted(front::counted(next, part), fed)
+                }
+                Due::After(count) => {
+                    let context = front.context;
+                    let saved = context.bytes();
+                    let fed = slate::feed_after(
+                        places,
+                        &saved[..count],
+                        chunk,
+                        last,
+                        classes4,
+                        marks4,
+                        pairs4,
+                        classes5,
+                        marks5,
+                        pairs5,
+                        classes6,
+                        marks6,
+                        pairs6,
+                        classes7,
+                        marks7,
+                        pairs7,
+                        big5,
+                        euckr,
+                        jis,
+                        extras,
+                        weights,
+                    );
+                    accepted(front::counted(next, chunk), fed)
+                }
+            }
+        }
     }
 }
