@@ -35,7 +35,7 @@ use Rattle.kinds.specs.declared.machine.Machine.{Machine}
 use Rattle.kinds.specs.declared.machine.Machine.the-variants.{Utf8, Iso2022Jp, EucKr, Big5, Caseless, Logical, Visual, ArabicFrench}
 use Rattle.places.specs.Order.{ScoredFor, ZeroOrNone, FedOr, PlaceFor, SlateFor, scoredB, zeroOrNoneB, unfedB, placeB, slateB}
 use Rattle.places.specs.Place.{place, placeAs}
-use Rattle.places.specs.Steps.{endFrom, endOf, scoreSize, begunB}
+use Rattle.places.specs.Steps.{endFrom, endOf, scoreSize, begunB, spacedOf, reachBy}
 use Rattle.places.specs.declared.place.Place.{Place}
 use Rattle.places.specs.declared.place.Score.{Score}
 use Rattle.places.specs.declared.place.Score.the-variants.{None, Live}
@@ -158,6 +158,21 @@ module _ (n : ℕ) (closed fed : Bool) (k : ℕ) (p : Place) where
           at None q b i = i ∙ place-none q
           at (Live s) q b i = place-unfed s q b r i
 
+-- the reach, by the bytes with the closing space
+pub reach-by : (m : Machine) (n spaced : ℕ) (closed : Bool) → spaced ≡ spacedOf n closed → reachBy m n spaced ≡ reachOf m n closed
+unfolding reachOf
+reach-by m n spaced closed e = rw e (at closed (takesSpace m))
+  where
+    at : (c t : Bool) → cond t (spacedOf n c) n ≡ cond (c && t) (n + 1) n
+    at true true = refl
+    at true false = refl
+    at false true = refl
+    at false false = refl
+
+pub spaced-most : (n most : ℕ) (closed : Bool) → n ≤ most → spacedOf n closed ≤ most + 1
+spaced-most n most true h = omega (arith, h)
+spaced-most n most false h = omega (arith, h)
+
 -- ---- for the loop of the test
 module _ (n : ℕ) (closed fed : Bool) (ps : List Place) where
   abbrev test : ℕ → Place → Bool
@@ -206,9 +221,8 @@ reach-more m n k true h = pick (takesSpace m)
     pick false = h
 reach-more m n k false h = h
 
-pub reach-most : (m : Machine) (n : ℕ) (closed : Bool) → reachOf m n closed ≤ n + 1
-unfolding reachOf
-reach-most m n closed = either (λ (k : ℕ). k ≤ n + 1) (closed && takesSpace m) (λ e. omega arith) (λ e. omega arith)
+pub reach-most : (m : Machine) (n spaced most : ℕ) → n ≤ most → spaced ≤ most → reachBy m n spaced ≤ most
+reach-most m n spaced most h i = either (λ (k : ℕ). k ≤ most) (takesSpace m) (λ e. i) (λ e. h)
 
 -- a live outcome's score is at most c in size
 abbrev pub BoundedOut : ℕ → Outcome Machine → Type 0

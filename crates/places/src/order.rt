@@ -1,10 +1,9 @@
 // Which places a state in order can hold.
 ghost use mathlib.Core.Path.{_≡_};
-ghost use Prim.Native.Nat.{_≤_};
+ghost use Prim.Native.Nat.{_+_, _≤_};
 ghost use Rattle.laws.specs.Limit.{limit};
-ghost use Rattle.kinds.specs.Sound.{reachOf};
-ghost use Rattle.places.specs.Order.{placeB, slateB};
-ghost use Rattle.places.specs.Steps.{scoreSize, begunB};
+ghost use Rattle.places.specs.Order.{slateB};
+ghost use Rattle.places.specs.Steps.{scoreSize, begunB, spacedOf, reachBy, PlaceTold};
 use crate::place::Place;
 use crate::place::Score;
 use crate::place::Slate;
@@ -15,15 +14,22 @@ use records::sound;
 // What one byte adds to a score at most.
 const PER_BYTE: u64 = 10_737_418_240;
 
-// The bytes that a machine has seen at most, the closing space with them.
-fn reach(machine: Machine, bytes: u64, closed: bool) -> u64
-    requires { ⌜ bytes ≤ limit ⌝ }
-    ensures { λ r. ⌜ r ≡ reachOf machine bytes closed ⌝ }
+// The bytes that a machine has seen at most, of a stream with its closing space or without.
+fn reach(machine: Machine, bytes: u64, spaced: u64) -> u64
+    ensures { λ r. ⌜ r ≡ reachBy machine bytes spaced ⌝ }
 {
-    if !closed {
-        return bytes;
-    }
     if sound::takes_space(machine) {
+        return spaced;
+    }
+    bytes
+}
+
+// How many bytes there are with the closing space, where the stream is closed.
+fn with_space(bytes: u64, closed: bool) -> u64
+    requires { ⌜ bytes ≤ limit ⌝ }
+    ensures { λ r. ⌜ r ≡ spacedOf bytes closed ⌝ }
+{
+    if closed {
         return bytes + 1;
     }
     bytes
@@ -49,11 +55,12 @@ fn is_begun(score: Score, fed: bool) -> bool
     }
 }
 
-// Whether it can stand at place k: after so many bytes, the stream closed or not, fed already or not. A fresh record is
+// Whether it can stand at place k: after so many bytes, with the closing space so many, fed already or not. A fresh record is
 // one that no bound excludes.
-fn is_in_order(place: Place, k: usize, bytes: u64, closed: bool, fed: bool) -> bool
+fn is_in_order(place: Place, k: usize, bytes: u64, spaced: u64, fed: bool) -> bool
     requires { ⌜ bytes ≤ limit ⌝ }
-    ensures { λ r. ⌜ r ≡ placeB bytes closed fed k place ⌝ }
+    requires { ⌜ spaced ≤ limit + 1 ⌝ }
+    ensures { λ r. ⌜ PlaceTold r bytes spaced fed k place ⌝ }
 {
     let machine = place.machine;
     let score = place.score;
@@ -61,7 +68,7 @@ fn is_in_order(place: Place, k: usize, bytes: u64, closed: bool, fed: bool) -> b
         return false;
     }
     if is_begun(score, fed) {
-        let most = reach(machine, bytes, closed);
+        let most = reach(machine, bytes, spaced);
         return size_of(score) <= PER_BYTE * most && sound::is_sound(machine, bytes, most);
     }
     size_of(score) == 0 && fresh::is_fresh(machine)
@@ -74,10 +81,11 @@ pub fn are_in_order(places: Slate, bytes: u64, closed: bool, fed: bool) -> bool
     if lengths::LIMIT < bytes {
         return false;
     }
+    let spaced = with_space(bytes, closed);
     let mut k = 0;
     while k < 8 {
         let place = places[k];
-        if is_in_order(place, k, bytes, closed, fed) {
+        if is_in_order(place, k, bytes, spaced, fed) {
             k += 1;
         } else {
             return false;

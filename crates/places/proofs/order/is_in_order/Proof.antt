@@ -5,7 +5,7 @@ use native.Mathlib.Omega.{arith}
 use borrow.Author.Tests.{eq-eqb, ne-eqb, le-leb, lt-leb}
 use Rattle.laws.specs.Limit.{limit}
 use Rattle.kinds.specs.Kinds.{placeNumber}
-use Rattle.places.specs.OrderLaws.{reach-most, place-other, place-begun, place-unbegun}
+use Rattle.places.specs.OrderLaws.{reach-by, reach-most, place-other, place-begun, place-unbegun}
 use Rattle.places.specs.Steps.{begunB}
 use borrow.Author.Needs.{needs}
 use Rattle.places.proofs.order.is_in_order.Statement.{statement}
@@ -25,7 +25,7 @@ place-number-requires c κs = search needs
 returns : tie.Need-returns
 returns c =
     let a = c .before .before .args in
-    place-other (a .bytes) (a .closed) (a .fed) (a .k) (a .place) (λ e. c .if1 .taken (c .before .place-number .ensures ∙ e))
+    λ closed q. place-other (a .bytes) closed (a .fed) (a .k) (a .place) (λ e. c .if1 .taken (c .before .place-number .ensures ∙ e))
 
 is-begun-requires : tie.Need-is-begun-requires
 is-begun-requires c κs = search needs
@@ -39,7 +39,7 @@ size-of-requires c κs = search needs
 mul-if3 : tie.Need-mul-if3
 mul-if3 c =
     let s = first (c .before .before .before) in
-    let h : c .before .reach .result ≤ limit + 1 = rw (c .before .reach .ensures) (omega (arith, reach-most (s .args .place .machine) (s .args .bytes) (s .args .closed), s .pre)) in
+    let h : c .before .reach .result ≤ limit + 1 = rw (c .before .reach .ensures) (reach-most (s .args .place .machine) (s .args .bytes) (s .args .spaced) (limit + 1) (omega (arith, s .pre .0)) (s .pre .1)) in
     search needs
 
 is-sound-requires : tie.Need-is-sound-requires
@@ -49,16 +49,20 @@ returns-2 : tie.Need-returns-2
 returns-2 c =
     let k = c .before .before .before .before .before in
     let a = first k .args in
-    let small = rw (c .before .before .before .reach .ensures, c .before .before .size-of .ensures) at (le-leb _ _ (c .before .if3 .taken)) in
-    place-begun (a .bytes) (a .closed) (a .fed) (a .k) (a .place) (kind k) (c .is-sound .result) (sym (k .is-begun .ensures) ∙ c .before .before .before .before .if2 .taken) (rw small (rw (c .before .before .before .reach .ensures) at (c .is-sound .ensures)))
+    λ closed q.
+    let far = c .before .before .before .reach .ensures ∙ reach-by (a .place .machine) (a .bytes) (a .spaced) closed q in
+    let small = rw (far, c .before .before .size-of .ensures) at (le-leb _ _ (c .before .if3 .taken)) in
+    place-begun (a .bytes) closed (a .fed) (a .k) (a .place) (kind k) (c .is-sound .result) (sym (k .is-begun .ensures) ∙ c .before .before .before .before .if2 .taken) (rw small (rw far at (c .is-sound .ensures)))
 
 returns-3 : tie.Need-returns-3
 returns-3 c =
     let k = c .before .before .before .before in
     let a = first k .args in
     let h : 10737418240 * c .before .before .reach .result < c .before .size-of .result = omega (arith, c .if3 .left) in
-    let large = rw (c .before .before .reach .ensures, c .before .size-of .ensures) at (lt-leb (c .before .size-of .result) (10737418240 * c .before .before .reach .result) h) in
-    place-begun (a .bytes) (a .closed) (a .fed) (a .k) (a .place) (kind k) _ (sym (k .is-begun .ensures) ∙ c .before .before .before .if2 .taken) (rw large (lt-leb _ _ h))
+    λ closed q.
+    let far = c .before .before .reach .ensures ∙ reach-by (a .place .machine) (a .bytes) (a .spaced) closed q in
+    let large = rw (far, c .before .size-of .ensures) at (lt-leb (c .before .size-of .result) (10737418240 * c .before .before .reach .result) h) in
+    place-begun (a .bytes) closed (a .fed) (a .k) (a .place) (kind k) _ (sym (k .is-begun .ensures) ∙ c .before .before .before .if2 .taken) (rw large (lt-leb _ _ h))
 
 size-of-requires-2 : tie.Need-size-of-requires-2
 size-of-requires-2 c κs = search needs
@@ -71,13 +75,13 @@ returns-4 c =
     let k = c .before .before .before .before in
     let a = first k .args in
     let zero = sym (c .before .before .size-of2 .ensures) ∙ c .before .if4 .taken in
-    place-unbegun (a .bytes) (a .closed) (a .fed) (a .k) (a .place) (kind k) (c .is-fresh .result) (sym (k .is-begun .ensures) ∙ c .before .before .before .if2 .left) (rw (eq-eqb _ 0 zero) (c .is-fresh .ensures))
+    λ closed q. place-unbegun (a .bytes) closed (a .fed) (a .k) (a .place) (kind k) (c .is-fresh .result) (sym (k .is-begun .ensures) ∙ c .before .before .before .if2 .left) (rw (eq-eqb _ 0 zero) (c .is-fresh .ensures))
 
 returns-5 : tie.Need-returns-5
 returns-5 c =
     let k = c .before .before .before in
     let a = first k .args in
-    place-unbegun (a .bytes) (a .closed) (a .fed) (a .k) (a .place) (kind k) _ (sym (k .is-begun .ensures) ∙ c .before .before .if2 .left) (rw (ne-eqb _ 0 (λ e. c .if4 .left (c .before .size-of2 .ensures ∙ e))) (ne-eqb _ _ (c .if4 .left)))
+    λ closed q. place-unbegun (a .bytes) closed (a .fed) (a .k) (a .place) (kind k) _ (sym (k .is-begun .ensures) ∙ c .before .before .if2 .left) (rw (ne-eqb _ 0 (λ e. c .if4 .left (c .before .size-of2 .ensures ∙ e))) (ne-eqb _ _ (c .if4 .left)))
 
 pub is-in-order-spec : {M : Type 1} → statement M
 is-in-order-spec =
