@@ -7,10 +7,10 @@ use Rattle.bench.proofs.all.over.Statement.{statement}
 use Rattle.bench.proofs.all.over.Tie as tie
 
 abbrev Inv-loop : tie.InvT-loop
-Inv-loop from size text classes4 marks4 pairs4 classes5 marks5 pairs5 classes6 marks6 pairs6 classes7 marks7 pairs7 big5 euckr jis extras weights state₀ at₀ state at = at ≤ length text
+Inv-loop size text classes4 marks4 pairs4 classes5 marks5 pairs5 classes6 marks6 pairs6 classes7 marks7 pairs7 big5 euckr jis extras weights state₀ at₀ state at = at ≤ length text
 
 abbrev μ-loop : tie.MeasureT-loop
-μ-loop from size text classes4 marks4 pairs4 classes5 marks5 pairs5 classes6 marks6 pairs6 classes7 marks7 pairs7 big5 euckr jis extras weights state₀ at₀ state at = length text - at
+μ-loop size text classes4 marks4 pairs4 classes5 marks5 pairs5 classes6 marks6 pairs6 classes7 marks7 pairs7 big5 euckr jis extras weights state₀ at₀ state at = length text - at
 
 loop-holds : tie.Need-loop-holds Inv-loop μ-loop
 loop-holds c = search needs
