@@ -10,11 +10,11 @@ use lib.ListN.{getD}
 use borrow.Author.Tests.{ne-eqb}
 use Rattle.laws.specs.Run.{Outcome, live, none, dropped, Dropout}
 use Rattle.octets.specs.Octets.{ascii}
-use Rattle.single.specs.Before.{asciiBefore, not-first, one-back}
+use Rattle.single.specs.Before.{asciiBefore, asciiPairAt, not-first, one-back}
 use Rattle.single.specs.Class.{classOf, caselessOf, isCapital, latinLetter, alphabetic, alphabeticOf, unless255}
-use Rattle.single.specs.ClassLaws.{live-is}
+use Rattle.single.specs.ClassLaws.{live-is, none-is}
 use Rattle.single.specs.Lent.{Lent}
-use Rattle.single.specs.Pair.{asciiPair, pairGainOf}
+use Rattle.single.specs.Pair.{asciiPair, gainBy}
 use Rattle.single.specs.Rest.{Rests, rest-next}
 use Rattle.single.specs.Words.{wordOf, longestOf}
 use Rattle.arabic_french.specs.ArabicFrench.{capitalAfter, caseOf, caseGainOf, nextOf, stepOf}
@@ -40,7 +40,7 @@ flagged isAscii state m =
     }
 
 abbrev pub pairAt : List ℕ → ℕ → ArabicFrench → Bool
-pairAt xs i m = asciiPair (asciiBefore xs i (m .«prev_ascii»)) (getD xs i 0)
+pairAt xs i m = asciiPairAt xs i (m .«prev_ascii»)
 
 -- the record at byte i of a part
 abbrev pub noted : List ℕ → ℕ → ArabicFrench → ArabicFrench
@@ -61,8 +61,8 @@ abbrev pub leftBy : ArabicFrench → LatinCaseState → ℕ → Bool → ArabicF
 leftBy m state current alphabetic =
     bare current state (wordOf (m .«current_word_len») alphabetic) (longestOf (m .«current_word_len») (m .«longest_word») alphabetic)
 
-abbrev pub gainBy : List ℕ → List ℤ → List ℤ → ArabicFrench → ℕ → ℕ → ℤ
-gainBy marks pairs weights m b current = cond (asciiPair (m .«prev_ascii») b) (pos 0) (pairGainOf marks pairs weights (m .prev) current)
+abbrev pub gainFrom : List ℕ → List ℤ → List ℤ → ArabicFrench → ℕ → ℕ → ℤ
+gainFrom marks pairs weights m b current = gainBy marks pairs weights (m .prev) (m .«prev_ascii») b current
 
 -- the same of a Latin letter, whose case counts
 abbrev pub latinBy : List ℕ → ArabicFrench → ℕ → ArabicFrench
@@ -70,7 +70,7 @@ latinBy marks m class = leftBy m (caseOf (m .«case_state») class) latinLetter 
 
 abbrev pub latinGainBy : List ℕ → List ℤ → List ℤ → ArabicFrench → ℕ → ℕ → ℤ
 latinGainBy marks pairs weights m b class =
-    gainBy marks pairs weights m b latinLetter +ℤ caseGainOf weights (asciiPair (m .«prev_ascii») b) (m .«case_state») class
+    gainFrom marks pairs weights m b latinLetter +ℤ caseGainOf weights (asciiPair (m .«prev_ascii») b) (m .«case_state») class
 
 -- a state that was left as it was does not count
 held : (x : Bool) (s stale : LatinCaseState) → cond x (cond x (cond x s Space) stale) Space ≡ cond x s Space
@@ -90,16 +90,16 @@ module _ (t : Lent) (m : ArabicFrench) (stale : LatinCaseState) (b : ℕ) where
 
   unfoldable pub roughOf : Outcome ArabicFrench
   roughOf =
-      unless255 t b (live leftOf (gainBy (t .marks) (t .pairs) (t .weights) m b (caselessOf t b) +ℤ caseGainOf (t .weights) (asciiPair (m .«prev_ascii») b) (m .«case_state») (classOf t b)))
+      unless255 t b (live leftOf (gainFrom (t .marks) (t .pairs) (t .weights) m b (caselessOf t b) +ℤ caseGainOf (t .weights) (asciiPair (m .«prev_ascii») b) (m .«case_state») (classOf t b)))
 
   -- ---- the two ways
   pub rough-latin : (classOf t b ≡ 255 → ⊥) → caselessOf t b ≡ latinLetter → roughOf ≡ live (latinBy (t .marks) m (classOf t b)) (latinGainBy (t .marks) (t .pairs) (t .weights) m b (classOf t b))
   unfolding roughOf
   rough-latin n e = rw (ne-eqb _ _ n, e)
 
-  pub rough-other : (classOf t b ≡ 255 → ⊥) → (caselessOf t b ≡ latinLetter → ⊥) → roughOf ≡ live (leftBy m stale (caselessOf t b) (alphabetic t b)) (gainBy (t .marks) (t .pairs) (t .weights) m b (caselessOf t b))
+  pub rough-other : (classOf t b ≡ 255 → ⊥) → (caselessOf t b ≡ latinLetter → ⊥) → roughOf ≡ live (leftBy m stale (caselessOf t b) (alphabetic t b)) (gainFrom (t .marks) (t .pairs) (t .weights) m b (caselessOf t b))
   unfolding roughOf
-  rough-other n e = rw (ne-eqb _ _ n, ne-eqb _ _ e, no-case (asciiPair (m .«prev_ascii») b) (gainBy (t .marks) (t .pairs) (t .weights) m b (caselessOf t b)))
+  rough-other n e = rw (ne-eqb _ _ n, ne-eqb _ _ e, no-case (asciiPair (m .«prev_ascii») b) (gainFrom (t .marks) (t .pairs) (t .weights) m b (caselessOf t b)))
 
   -- ---- it is the machine's step
   case-held : heldCase (caselessOf t b) stateOf ≡ caseOf (m .«case_state») (classOf t b)
@@ -116,13 +116,9 @@ module _ (t : Lent) (m : ArabicFrench) (stale : LatinCaseState) (b : ℕ) where
   unfolding roughOf stepOf
   rough-live {n} {g} e = live-at (eqb (classOf t b) 255) n _ g e
 
-  none-at : (x : Bool) (d : Dropout) (k : ℤ) → cond x dropped (live leftOf k) ≡ none d → cond x dropped (live (nextOf t m b) k) ≡ none d
-  none-at true d k e = e
-  none-at false d k e = cc
-
   pub rough-none : {d : Dropout} → roughOf ≡ none d → stepOf t m b ≡ none d
   unfolding roughOf stepOf
-  rough-none {d} e = none-at (eqb (classOf t b) 255) d _ e
+  rough-none e = none-is t b leftOf (nextOf t m b) _ _ e
 
   -- where no word has begun, the byte's class is not alphabetic
   pub rough-rests : (i : ℕ) {n : ArabicFrench} {g : ℤ} → roughOf ≡ live n g → Rests (t .marks) i (n .«current_word_len») (n .prev)

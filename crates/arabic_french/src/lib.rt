@@ -8,7 +8,7 @@ ghost use Rattle.laws.specs.Answer.{ran};
 ghost use Rattle.laws.specs.Run.{alive, live, run};
 ghost use Rattle.weights.specs.Weights.{term, perByte};
 ghost use Rattle.arabic_french.specs.ArabicFrench.{fresh, caseOf, clashOf, caseGainOf, stepOf, answerOf, ranAs, ranOf, closedOf, Sound, soundB, Bounded};
-ghost use Rattle.arabic_french.specs.Noted.{caseBefore, pairAt, noted, bare, leftBy, gainBy, latinBy, latinGainBy, roughOf};
+ghost use Rattle.arabic_french.specs.Noted.{caseBefore, pairAt, noted, bare, leftBy, gainFrom, latinBy, latinGainBy, roughOf};
 ghost use Rattle.laws.specs.Limit.{room};
 ghost use Rattle.single.specs.Before.{asciiBefore};
 ghost use Rattle.single.specs.Class.{alphabeticOf};
@@ -176,7 +176,7 @@ impl ArabicFrench {
         requires { ⌜ i < length (now part) ⌝ }
         requires { ⌜ Sound (2 * room) self ⌝ }
         requires { ⌜ alphabeticOf (now marks) current ≡ true ⌝ }
-        ensures { λ r. ⌜ answerOf r ≡ ran (live (leftBy self (self .«case_state») current true) (gainBy (now (marks .entry)) (now (pairs .entry)) (now (weights .entry)) (noted (now (part .entry)) i self) (getD (now (part .entry)) i 0) current)) ⌝ }
+        ensures { λ r. ⌜ answerOf r ≡ ran (live (leftBy self (self .«case_state») current true) (gainFrom (now (marks .entry)) (now (pairs .entry)) (now (weights .entry)) (noted (now (part .entry)) i self) (getD (now (part .entry)) i 0) current)) ⌝ }
         ensures { λ r. ⌜ Bounded perByte r ⌝ }
     {
         let words = single::words_after(self.current_word_len, self.longest_word, true);
@@ -203,7 +203,7 @@ impl ArabicFrench {
         requires { ⌜ self .«current_word_len» ≡ 0 ⌝ }
         requires { ⌜ alphabeticOf (now marks) (self .prev) ≡ false ⌝ }
         requires { ⌜ alphabeticOf (now marks) current ≡ false ⌝ }
-        ensures { λ r. ⌜ answerOf r ≡ ran (live (leftBy self (self .«case_state») current false) (gainBy (now (marks .entry)) (now (pairs .entry)) (now (weights .entry)) (noted (now (part .entry)) i self) (getD (now (part .entry)) i 0) current)) ⌝ }
+        ensures { λ r. ⌜ answerOf r ≡ ran (live (leftBy self (self .«case_state») current false) (gainFrom (now (marks .entry)) (now (pairs .entry)) (now (weights .entry)) (noted (now (part .entry)) i self) (getD (now (part .entry)) i 0) current)) ⌝ }
         ensures { λ r. ⌜ Bounded perByte r ⌝ }
     {
         let case_state = self.case_state;
@@ -228,7 +228,7 @@ impl ArabicFrench {
         requires { ⌜ Sound (2 * room) self ⌝ }
         requires { ⌜ Rests (now marks) i (self .«current_word_len») (self .prev) ⌝ }
         requires { ⌜ alphabeticOf (now marks) current ≡ false ⌝ }
-        ensures { λ r. ⌜ answerOf r ≡ ran (live (leftBy self (self .«case_state») current false) (gainBy (now (marks .entry)) (now (pairs .entry)) (now (weights .entry)) (noted (now (part .entry)) i self) (getD (now (part .entry)) i 0) current)) ⌝ }
+        ensures { λ r. ⌜ answerOf r ≡ ran (live (leftBy self (self .«case_state») current false) (gainFrom (now (marks .entry)) (now (pairs .entry)) (now (weights .entry)) (noted (now (part .entry)) i self) (getD (now (part .entry)) i 0) current)) ⌝ }
         ensures { λ r. ⌜ Bounded perByte r ⌝ }
     {
         if single::is_at_rest(i, self.current_word_len) {

@@ -7,7 +7,7 @@ ghost use Rattle.laws.specs.Answer.{ran};
 ghost use Rattle.laws.specs.Run.{alive, live, run};
 ghost use Rattle.weights.specs.Weights.{perByte};
 ghost use Rattle.caseless.specs.Caseless.{fresh, stepOf, answerOf, ranAs, ranOf, closedOf, Sound, soundB, Bounded};
-ghost use Rattle.caseless.specs.Noted.{pairAt, noted, bare, leftBy, gainBy, roughOf};
+ghost use Rattle.caseless.specs.Noted.{pairAt, noted, bare, leftBy, gainFrom, roughOf};
 ghost use Rattle.laws.specs.Limit.{room};
 ghost use Rattle.single.specs.Before.{asciiBefore};
 ghost use Rattle.single.specs.Class.{alphabeticOf};
@@ -102,7 +102,7 @@ impl Caseless {
         requires { ⌜ i < length (now part) ⌝ }
         requires { ⌜ Sound (2 * room) self ⌝ }
         requires { ⌜ alphabeticOf (now marks) current ≡ true ⌝ }
-        ensures { λ r. ⌜ answerOf r ≡ ran (live (leftBy (noted (now (part .entry)) i self) (getD (now (part .entry)) i 0) current true) (gainBy (now (marks .entry)) (now (pairs .entry)) (now (weights .entry)) (noted (now (part .entry)) i self) (getD (now (part .entry)) i 0) current)) ⌝ }
+        ensures { λ r. ⌜ answerOf r ≡ ran (live (leftBy (noted (now (part .entry)) i self) (getD (now (part .entry)) i 0) current true) (gainFrom (now (marks .entry)) (now (pairs .entry)) (now (weights .entry)) (noted (now (part .entry)) i self) (getD (now (part .entry)) i 0) current)) ⌝ }
         ensures { λ r. ⌜ Bounded perByte r ⌝ }
     {
         let words = single::words_after(self.current_word_len, self.longest_word, true);
@@ -128,7 +128,7 @@ impl Caseless {
         requires { ⌜ self .«current_word_len» ≡ 0 ⌝ }
         requires { ⌜ alphabeticOf (now marks) (self .prev) ≡ false ⌝ }
         requires { ⌜ alphabeticOf (now marks) current ≡ false ⌝ }
-        ensures { λ r. ⌜ answerOf r ≡ ran (live (leftBy (noted (now (part .entry)) i self) (getD (now (part .entry)) i 0) current false) (gainBy (now (marks .entry)) (now (pairs .entry)) (now (weights .entry)) (noted (now (part .entry)) i self) (getD (now (part .entry)) i 0) current)) ⌝ }
+        ensures { λ r. ⌜ answerOf r ≡ ran (live (leftBy (noted (now (part .entry)) i self) (getD (now (part .entry)) i 0) current false) (gainFrom (now (marks .entry)) (now (pairs .entry)) (now (weights .entry)) (noted (now (part .entry)) i self) (getD (now (part .entry)) i 0) current)) ⌝ }
         ensures { λ r. ⌜ Bounded perByte r ⌝ }
     {
         let next = Self::bare(current, 0, self.longest_word);
@@ -152,7 +152,7 @@ impl Caseless {
         requires { ⌜ Sound (2 * room) self ⌝ }
         requires { ⌜ Rests (now marks) i (self .«current_word_len») (self .prev) ⌝ }
         requires { ⌜ alphabeticOf (now marks) current ≡ false ⌝ }
-        ensures { λ r. ⌜ answerOf r ≡ ran (live (leftBy (noted (now (part .entry)) i self) (getD (now (part .entry)) i 0) current false) (gainBy (now (marks .entry)) (now (pairs .entry)) (now (weights .entry)) (noted (now (part .entry)) i self) (getD (now (part .entry)) i 0) current)) ⌝ }
+        ensures { λ r. ⌜ answerOf r ≡ ran (live (leftBy (noted (now (part .entry)) i self) (getD (now (part .entry)) i 0) current false) (gainFrom (now (marks .entry)) (now (pairs .entry)) (now (weights .entry)) (noted (now (part .entry)) i self) (getD (now (part .entry)) i 0) current)) ⌝ }
         ensures { λ r. ⌜ Bounded perByte r ⌝ }
     {
         if single::is_at_rest(i, self.current_word_len) {

@@ -8,11 +8,11 @@ use lib.IntN.{ℤ, pos}
 use lib.ListN.{getD}
 use Rattle.laws.specs.Run.{Outcome, live, none, dropped, Dropout}
 use Rattle.octets.specs.Octets.{ascii}
-use Rattle.single.specs.Before.{asciiBefore, ascii-next}
+use Rattle.single.specs.Before.{asciiBefore, asciiPairAt, ascii-next}
 use Rattle.single.specs.Class.{classOf, caselessOf, alphabetic, unless255}
-use Rattle.single.specs.ClassLaws.{live-is}
+use Rattle.single.specs.ClassLaws.{live-is, none-is}
 use Rattle.single.specs.Lent.{Lent}
-use Rattle.single.specs.Pair.{asciiPair, pairGainOf}
+use Rattle.single.specs.Pair.{asciiPair, gainBy}
 use Rattle.single.specs.Punctuation.{countOf}
 use Rattle.single.specs.Rest.{Rests, rest-next}
 use Rattle.single.specs.Words.{wordOf, longestOf}
@@ -30,7 +30,7 @@ flagged isAscii m =
     }
 
 abbrev pub pairAt : List ℕ → ℕ → Logical → Bool
-pairAt xs i m = asciiPair (asciiBefore xs i (m .«prev_ascii»)) (getD xs i 0)
+pairAt xs i m = asciiPairAt xs i (m .«prev_ascii»)
 
 -- the record at byte i of a part
 abbrev pub noted : List ℕ → ℕ → Logical → Logical
@@ -51,15 +51,15 @@ abbrev pub leftBy : List ℕ → Logical → ℕ → ℕ → Bool → Logical
 leftBy marks m b current alphabetic =
     bare current (countOf (m .«plausible_punctuation») (not (asciiPair (m .«prev_ascii») b) && plausibleOf marks (m .prev) current b)) (wordOf (m .«current_word_len») alphabetic) (longestOf (m .«current_word_len») (m .«longest_word») alphabetic)
 
-abbrev pub gainBy : List ℕ → List ℤ → List ℤ → Logical → ℕ → ℕ → ℤ
-gainBy marks pairs weights m b current = cond (asciiPair (m .«prev_ascii») b) (pos 0) (pairGainOf marks pairs weights (m .prev) current)
+abbrev pub gainFrom : List ℕ → List ℤ → List ℤ → Logical → ℕ → ℕ → ℤ
+gainFrom marks pairs weights m b current = gainBy marks pairs weights (m .prev) (m .«prev_ascii») b current
 
 module _ (t : Lent) (m : Logical) (b : ℕ) where
   abbrev leftOf : Logical
   leftOf = leftBy (t .marks) m b (caselessOf t b) (alphabetic t b)
 
   unfoldable pub roughOf : Outcome Logical
-  roughOf = unless255 t b (live leftOf (gainBy (t .marks) (t .pairs) (t .weights) m b (caselessOf t b)))
+  roughOf = unless255 t b (live leftOf (gainFrom (t .marks) (t .pairs) (t .weights) m b (caselessOf t b)))
 
   live-at : (x : Bool) (n : Logical) (k g : ℤ) → cond x dropped (live leftOf k) ≡ live n g → cond x dropped (live (nextOf t m b) k) ≡ live (flagged (ascii b) n) g
   live-at true n k g e = cc
@@ -69,13 +69,9 @@ module _ (t : Lent) (m : Logical) (b : ℕ) where
   unfolding roughOf stepOf
   rough-live {n} {g} e = live-at (eqb (classOf t b) 255) n _ g e
 
-  none-at : (x : Bool) (d : Dropout) (k : ℤ) → cond x dropped (live leftOf k) ≡ none d → cond x dropped (live (nextOf t m b) k) ≡ none d
-  none-at true d k e = e
-  none-at false d k e = cc
-
   pub rough-none : {d : Dropout} → roughOf ≡ none d → stepOf t m b ≡ none d
   unfolding roughOf stepOf
-  rough-none {d} e = none-at (eqb (classOf t b) 255) d _ e
+  rough-none e = none-is t b leftOf (nextOf t m b) _ _ e
 
   -- where no word has begun, the byte's class is not alphabetic
   pub rough-rests : (i : ℕ) {n : Logical} {g : ℤ} → roughOf ≡ live n g → Rests (t .marks) i (n .«current_word_len») (n .prev)

@@ -8,9 +8,14 @@ use lib.Dec.{eqb}
 use lib.ListN.{getD}
 use borrow.Author.Tests.{ne-eqb}
 use Rattle.octets.specs.Octets.{ascii}
+use Rattle.single.specs.Pair.{asciiPair}
 
 abbrev pub asciiBefore : List ℕ → ℕ → Bool → Bool
 asciiBefore xs i flag = cond (eqb i 0) flag (ascii (getD xs (i - 1) 0))
+
+-- whether byte i and the one before are both ASCII
+abbrev pub asciiPairAt : List ℕ → ℕ → Bool → Bool
+asciiPairAt xs i flag = asciiPair (asciiBefore xs i flag) (getD xs i 0)
 
 pub not-first : (i : ℕ) → eqb (i + 1) 0 ≡ false
 not-first i = ne-eqb (i + 1) 0 (λ e. omega (arith, e))

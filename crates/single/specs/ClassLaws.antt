@@ -5,7 +5,7 @@ use Prim.Native.Nat.{ℕ}
 use lib.Dec.{eqb}
 use lib.IntN.{ℤ}
 use borrow.Author.Tests.{ne-eqb}
-use Rattle.laws.specs.Run.{Outcome, live, dropped}
+use Rattle.laws.specs.Run.{Dropout, Outcome, none, live, dropped}
 use Rattle.single.specs.Class.{classOf, unless255}
 use Rattle.single.specs.Lent.{Lent}
 
@@ -19,3 +19,11 @@ pick-live false o m n k g d e = cc
 
 pub live-is : {S : Type 0} (t : Lent) (b : ℕ) (m n : S) (k g : ℤ) → unless255 t b (live m k) ≡ live n g → n ≡ m
 live-is t b m n k g e = pick-live (eqb (classOf t b) 255) dropped m n k g refl e
+
+-- what drops out on a byte drops out whatever else the byte does
+pub none-is : {S : Type 0} (t : Lent) (b : ℕ) (m n : S) (k g : ℤ) {d : Dropout} → unless255 t b (live m k) ≡ none d → unless255 t b (live n g) ≡ none d
+none-is t b m n k g {d} e = at (eqb (classOf t b) 255) e
+  where
+    at : (x : Bool) → cond x dropped (live m k) ≡ none d → cond x dropped (live n g) ≡ none d
+    at true e = e
+    at false e = cc

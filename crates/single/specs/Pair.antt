@@ -37,6 +37,9 @@ markedGainOf marks pairs weights alphabetic previous current =
     cond (besideOf marks alphabetic previous current) (pairScore pairs previous current +ℤ weightOf weights latinAdjacency)
     (pairScore pairs previous current)
 
--- by what a byte changes the score, in each of the four machines, but for the case weight of Arabic-French
+-- by what byte b of that class changes the score, in each of the four machines, but for the case weight of Arabic-French
+abbrev pub gainBy : List ℕ → List ℤ → List ℤ → ℕ → Bool → ℕ → ℕ → ℤ
+gainBy marks pairs weights previous prevAscii b current = cond (asciiPair prevAscii b) (pos 0) (pairGainOf marks pairs weights previous current)
+
 abbrev pub gainOf : Lent → ℕ → Bool → ℕ → ℤ
-gainOf t previous prevAscii b = cond (asciiPair prevAscii b) (pos 0) (pairGainOf (t .marks) (t .pairs) (t .weights) previous (caselessOf t b))
+gainOf t previous prevAscii b = gainBy (t .marks) (t .pairs) (t .weights) previous prevAscii b (caselessOf t b)

@@ -1,6 +1,6 @@
 -- Between words: the byte before is not alphabetic, so that no word ends, and no pair of two such classes is adjacent.
 use mathlib.Core.Path.{_≡_, refl, sym, _∙_}
-use mathlib.Core.Bool.{Bool, true, false, not, _&&_}
+use mathlib.Core.Bool.{Bool, true, false, not, _&&_, and-false}
 use mathlib.Core.List.{List}
 use Prim.Native.Nat.{ℕ, _+_}
 use native.Mathlib.Omega.{arith}
@@ -31,10 +31,6 @@ module _ (marks : List ℕ) where
   pub rest-next : (i word k : ℕ) (a : Bool) → alphabeticOf marks k ≡ a → Rests i (wordOf word a) k
   rest-next i word k true e h = absurd (omega (arith, rest-word i (word + 1) h))
   rest-next i word k false e h = e
-
-pub and-false : (x : Bool) → (x && false) ≡ false
-and-false true = refl
-and-false false = refl
 
 module _ (marks : List ℕ) (pairs weights : List ℤ) (p k : ℕ) where
   pub rest-gain : alphabeticOf marks p ≡ false → alphabeticOf marks k ≡ false → pairScore pairs p k ≡ pairGainOf marks pairs weights p k

@@ -1,13 +1,13 @@
 -- `Logical::between` meets its contract: two ASCII bytes go one way, any others the other.
 use mathlib.Core.Path.{_≡_, sym, _∙_}
-use mathlib.Core.Bool.{true, false}
+use mathlib.Core.Bool.{true, false, and-false}
 use native.Mathlib.Omega.{arith}
 use lib.ListN.{getD}
 use Rattle.laws.specs.Sizes.{thru64}
 use lib.Dec.{ltb}
 use borrow.Author.Tests.{le-ltb}
 use Rattle.weights.specs.Weights.{term}
-use Rattle.single.specs.Rest.{and-false, rest-gain}
+use Rattle.single.specs.Rest.{rest-gain}
 use Rattle.single.specs.Punctuation.{punctuationOf}
 use Rattle.logical.specs.Logical.{plausibleOf}
 use Rattle.logical.specs.Noted.{pairAt}
