@@ -118,6 +118,14 @@ cut-range n lo hi k l b apart h p q = at (eqb b k) (eqb b l) refl refl
     at false true e f = q
     at false false e f = plain h
 
+-- between two sequences there is one record only
+pub whole-fresh : (m : Utf8) → Sound m → m .need ≡ 0 → m ≡ fresh
+whole-fresh m (plain h) e = rw e
+whole-fresh m after-E0 e = absurd (omega (arith, e))
+whole-fresh m after-ED e = absurd (omega (arith, e))
+whole-fresh m after-F0 e = absurd (omega (arith, e))
+whole-fresh m after-F4 e = absurd (omega (arith, e))
+
 pub fresh-sound : Sound fresh
 fresh-sound = plain {n = 0} (omega arith)
 

@@ -82,12 +82,13 @@ impl Utf8 {
         Stepped::Alive(Utf8 { need, lo, hi }, 0)
     }
 
-    // A byte where a sequence begins.
-    fn lead(b: u8) -> Stepped
+    // A byte where a sequence begins. ASCII leaves the record as it is, which spares the loop its writing.
+    fn lead(self, b: u8) -> Stepped
+        requires { ⌜ self ≡ fresh ⌝ }
         ensures { λ r. ⌜ outOf r ≡ leadOf b ⌝ }
     {
         if b < 0x80 {
-            return Utf8::awaits(0, Utf8::LOWER, Utf8::UPPER);
+            return Stepped::Alive(self, 0);
         }
         if b < 0xC2 {
             return Stepped::Invalid;
@@ -113,11 +114,12 @@ impl Utf8 {
     }
 
     fn step(self, b: u8) -> Stepped
+        requires { ⌜ Sound self ⌝ }
         ensures { λ r. ⌜ outOf r ≡ stepOf self b ⌝ }
     {
         let need = self.need;
         if need == 0 {
-            return Utf8::lead(b);
+            return self.lead(b);
         }
         if b < self.lo {
             return Stepped::Invalid;

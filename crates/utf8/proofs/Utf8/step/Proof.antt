@@ -1,12 +1,12 @@
 -- `Utf8::step` meets its contract.
 use mathlib.Core.Path.{_∙_}
 use borrow.Author.Needs.{needs}
-use Rattle.utf8.specs.Utf8Laws.{step-lead, step-below, step-above, step-within}
+use Rattle.utf8.specs.Utf8Laws.{whole-fresh, step-lead, step-below, step-above, step-within}
 use Rattle.utf8.proofs.Utf8.step.Statement.{statement}
 use Rattle.utf8.proofs.Utf8.step.Tie as tie
 
 lead-requires : tie.Need-lead-requires
-lead-requires c κs = search needs
+lead-requires c κs = whole-fresh _ (c .before .pre) (c .if1 .taken)
 
 returns : tie.Need-returns
 returns c =
