@@ -17,6 +17,7 @@ use lent::Pairs;
 use libc::STDIN_FILENO;
 use libc::STDOUT_FILENO;
 use lines::show;
+use place::Next;
 use places::place::Place;
 use reader::command;
 use reader::command::Command;
@@ -39,13 +40,13 @@ fn each(
     let mut p = start;
     let mut i = 0;
     while i < part.len() {
-        let one = &part[i..i + 1];
-        p = place::fed(p, one, false, classes, marks, pairs, index, extras, weights);
+        let next = Next::Byte(part[i]);
+        p = place::fed(p, next, part, classes, marks, pairs, index, extras, weights);
         d = record::add(d, p);
         i += 1;
     }
     if last {
-        p = place::fed(p, part, true, classes, marks, pairs, index, extras, weights);
+        p = place::fed(p, Next::End, part, classes, marks, pairs, index, extras, weights);
         return record::add(d, p);
     }
     d
@@ -125,9 +126,9 @@ fn drive(
         ).print();
         return;
     }
-    let at = place::fed(p, all, false, classes, marks, pairs, index, extras, weights);
+    let at = place::fed(p, Next::Part, all, classes, marks, pairs, index, extras, weights);
     if last {
-        let end = place::fed(at, all, true, classes, marks, pairs, index, extras, weights);
+        let end = place::fed(at, Next::End, all, classes, marks, pairs, index, extras, weights);
         line(end);
         return;
     }

@@ -5,7 +5,7 @@ ghost use Prim.Native.Nat.{_*_};
 ghost use lib.ListN.{length};
 ghost use Rattle.weights.specs.Weights.{perByte};
 ghost use Rattle.tables.specs.Own.{own};
-ghost use Rattle.kinds.specs.Kinds.{placeNumber, freshOf, ofUtf8, ofIso2022Jp, ofEucKr, ofBig5, ofCaseless, ofLogical, ofVisual, ofArabicFrench, ranOf, closedOf, ranAt, decodedEnd, Bounded, Weighed};
+ghost use Rattle.kinds.specs.Kinds.{placeNumber, freshOf, ofUtf8, ofIso2022Jp, ofEucKr, ofBig5, ofCaseless, ofLogical, ofVisual, ofArabicFrench, closedOf, ranAt, decodedEnd, Bounded, Weighed};
 use arabic_french::ArabicFrench;
 use big5;
 use big5::Big5;
@@ -148,39 +148,6 @@ impl Machine {
             Machine::Logical(_) => Machine::Logical(Logical::fresh()),
             Machine::Visual(_) => Machine::Visual(Visual::fresh()),
             Machine::ArabicFrench(_) => Machine::ArabicFrench(ArabicFrench::fresh()),
-        }
-    }
-
-    // A stretch of bytes, over the tables of its place; a machine reads those that it has.
-    pub fn run(
-        self,
-        part: &[u8],
-        classes: &[u8],
-        marks: &[u8],
-        pairs: &[i16],
-        index: &[u32],
-        extras: &[i16],
-        weights: &[i32],
-    ) -> Ran
-        ensures { λ r. ⌜ r ≡ ranOf (own (now (classes .entry)) (now (marks .entry)) (now (pairs .entry)) (now (index .entry)) (now (extras .entry)) (now (weights .entry))) self (now (part .entry)) ⌝ }
-        ensures { λ r. ⌜ Bounded (perByte * length (now (part .entry))) r ⌝ }
-        ensures { λ r. ⌜ Weighed self (now (weights .entry)) r ⌝ }
-    {
-        match self {
-            Machine::Utf8(m) => of_utf8(m.run(part)),
-            Machine::Iso2022Jp(m) => of_iso2022jp(m.run(part, index)),
-            Machine::EucKr(m) => of_euckr(m.run(part, index, extras, weights)),
-            Machine::Big5(m) => of_big5(m.run(part, index, weights)),
-            Machine::Caseless(m) => of_caseless(m.run(part, classes, marks, pairs, weights)),
-            Machine::Logical(m) => of_logical(m.run(part, classes, marks, pairs, weights)),
-            Machine::Visual(m) => of_visual(m.run(part, classes, marks, pairs, weights)),
-            Machine::ArabicFrench(m) => of_arabic_french(m.run(
-                part,
-                classes,
-                marks,
-                pairs,
-                weights,
-            )),
         }
     }
 

@@ -82,7 +82,7 @@ impl Utf8 {
         Stepped::Alive(Utf8 { need, lo, hi }, 0)
     }
 
-    // A byte where a sequence begins. ASCII leaves the record as it is, which spares the loop its writing.
+    // A byte where a sequence begins. What the record has already is not written anew: the loop is the faster for it.
     fn lead(self, b: u8) -> Stepped
         requires { ⌜ self ≡ fresh ⌝ }
         ensures { λ r. ⌜ outOf r ≡ leadOf b ⌝ }
@@ -94,7 +94,7 @@ impl Utf8 {
             return Stepped::Invalid;
         }
         if b < 0xE0 {
-            return Utf8::awaits(1, Utf8::LOWER, Utf8::UPPER);
+            return Utf8::awaits(1, self.lo, self.hi);
         }
         if b < 0xF0 {
             return Utf8::awaits(

@@ -2,6 +2,8 @@
 use mathlib.Core.Path.{ap, _∙_}
 use borrow.Author.Needs.{needs}
 use Rattle.laws.specs.Run.{alive}
+use Rattle.utf8.specs.declared.Utf8.{Utf8}
+use Rattle.utf8.specs.Utf8.{needs as asks}
 use Rattle.utf8.specs.Utf8Laws.{lead-ascii, lead-early, lead-two, lead-three, lead-four, lead-late}
 use Rattle.utf8.proofs.Utf8.lead.Statement.{statement}
 use Rattle.utf8.proofs.Utf8.lead.Tie as tie
@@ -16,7 +18,9 @@ awaits-requires : tie.Need-awaits-requires
 awaits-requires c κs = search needs
 
 returns-3 : tie.Need-returns-3
-returns-3 c = c .awaits .ensures ∙ lead-two _ (c .before .before .if2 .left) (c .before .if3 .taken)
+returns-3 c =
+    let t = c .before .before in
+    c .awaits .ensures ∙ (ap (λ (m : Utf8). alive (asks 1 (m .lo) (m .hi))) (t .before .before .pre) ∙ lead-two _ (t .if2 .left) (c .before .if3 .taken))
 
 pick-requires : tie.Need-pick-requires
 pick-requires c κs = search needs
