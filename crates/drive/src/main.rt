@@ -40,13 +40,33 @@ fn each(
     let mut p = start;
     let mut i = 0;
     while i < part.len() {
-        let next = Next::Byte(part[i]);
-        p = place::fed(p, next, part, classes, marks, pairs, index, extras, weights);
+        let b = part[i];
+        p = place::fed(
+            p,
+            Next::Byte(b),
+            part,
+            classes,
+            marks,
+            pairs,
+            index,
+            extras,
+            weights,
+        );
         d = record::add(d, p);
         i += 1;
     }
     if last {
-        p = place::fed(p, Next::End, part, classes, marks, pairs, index, extras, weights);
+        p = place::fed(
+            p,
+            Next::End,
+            part,
+            classes,
+            marks,
+            pairs,
+            index,
+            extras,
+            weights,
+        );
         return record::add(d, p);
     }
     d
@@ -126,9 +146,29 @@ fn drive(
         ).print();
         return;
     }
-    let at = place::fed(p, Next::Part, all, classes, marks, pairs, index, extras, weights);
+    let at = place::fed(
+        p,
+        Next::Part,
+        all,
+        classes,
+        marks,
+        pairs,
+        index,
+        extras,
+        weights,
+    );
     if last {
-        let end = place::fed(at, Next::End, all, classes, marks, pairs, index, extras, weights);
+        let end = place::fed(
+            at,
+            Next::End,
+            all,
+            classes,
+            marks,
+            pairs,
+            index,
+            extras,
+            weights,
+        );
         line(end);
         return;
     }

@@ -14,17 +14,8 @@ abbrev μ-loop : tie.MeasureT-loop
 loop-holds : tie.Need-loop-holds Inv-loop μ-loop
 loop-holds c = search needs
 
-add-one : tie.Need-add-one Inv-loop μ-loop
-add-one c = search needs
-
-sub-one : tie.Need-sub-one Inv-loop μ-loop
-sub-one c = search needs
-
-part-one-start : tie.Need-part-one-start Inv-loop μ-loop
-part-one-start c = search needs
-
-part-one-end : tie.Need-part-one-end Inv-loop μ-loop
-part-one-end c = search needs
+shared-slice-read-b : tie.Need-shared-slice-read-b Inv-loop μ-loop
+shared-slice-read-b c = search needs
 
 fed-requires : tie.Need-fed-requires Inv-loop μ-loop
 fed-requires c κs = search needs
@@ -60,10 +51,7 @@ each-spec =
     Inv-loop
     μ-loop
     loop-holds
-    add-one
-    sub-one
-    part-one-start
-    part-one-end
+    shared-slice-read-b
     fed-requires
     add-requires
     add-i
