@@ -41,32 +41,14 @@ fn each(
     let mut i = 0;
     while i < part.len() {
         let b = part[i];
-        p = place::fed(
-            p,
-            Next::Byte(b),
-            part,
-            classes,
-            marks,
-            pairs,
-            index,
-            extras,
-            weights,
-        );
+        let next = Next::Byte(b);
+        p = place::fed(p, next, part, classes, marks, pairs, index, extras, weights);
         d = record::add(d, p);
         i += 1;
     }
     if last {
-        p = place::fed(
-            p,
-            Next::End,
-            part,
-            classes,
-            marks,
-            pairs,
-            index,
-            extras,
-            weights,
-        );
+        let end = Next::End;
+        p = place::fed(p, end, part, classes, marks, pairs, index, extras, weights);
         return record::add(d, p);
     }
     d
@@ -146,30 +128,11 @@ fn drive(
         ).print();
         return;
     }
-    let at = place::fed(
-        p,
-        Next::Part,
-        all,
-        classes,
-        marks,
-        pairs,
-        index,
-        extras,
-        weights,
-    );
+    let whole = Next::Part;
+    let at = place::fed(p, whole, all, classes, marks, pairs, index, extras, weights);
     if last {
-        let end = place::fed(
-            at,
-            Next::End,
-            all,
-            classes,
-            marks,
-            pairs,
-            index,
-            extras,
-            weights,
-        );
-        line(end);
+        let end = Next::End;
+        line(place::fed(at, end, all, classes, marks, pairs, index, extras, weights));
         return;
     }
     line(at);
