@@ -1,5 +1,6 @@
 //! One place alone: from a record, byte by byte.
 
+use crate::alone::{self, Alone};
 use crate::digest::Digest;
 use crate::input::Input;
 use crate::order::in_order;
@@ -108,7 +109,11 @@ fn whole<R: Read>(input: &mut Input<R>) -> Option<(u8, Vec<Record>)> {
     let bytes = input.chunk()?;
     let mut candidate = start.candidate(place);
     candidate.feed(&bytes, close);
-    Some((place, vec![Record::of(&candidate)]))
+    let told = || {
+        let close = close.then_some(bytes.len() as u64);
+        alone::end(place, &start, bytes.iter().copied().zip(1..), close)
+    };
+    Some((place, vec![Record::of(&candidate).unwrap_or_else(told)]))
 }
 
 /// Every two-byte stream from one record, closed, in the order of the bytes.
@@ -122,13 +127,11 @@ fn all<R: Read>(input: &mut Input<R>) -> Option<(u8, Vec<Record>)> {
 }
 
 fn drive(place: u8, start: &Record, bytes: &[u8], close: bool, records: &mut Vec<Record>) {
-    let mut candidate = start.candidate(place);
-    for byte in bytes {
-        candidate.feed(&[*byte], false);
-        records.push(Record::of(&candidate));
+    let mut alone = Alone::start(place, start);
+    for (&byte, at) in bytes.iter().zip(1..) {
+        records.push(alone.byte(byte, at));
     }
     if close {
-        candidate.feed(&[], true);
-        records.push(Record::of(&candidate));
+        records.push(alone.close(bytes.len() as u64));
     }
 }

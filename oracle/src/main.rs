@@ -1,6 +1,7 @@
 //! The given Rust over lent data. README.md says what each mode reads and
 //! writes.
 
+mod alone;
 mod bench;
 mod digest;
 mod drive;
@@ -11,12 +12,15 @@ mod make;
 mod order;
 mod patch;
 mod random;
+mod reach;
+mod reason;
 mod record;
 mod replay;
 mod selftest;
 mod sheet;
 mod stand;
 mod stream;
+mod trace;
 
 use lent::{weight, SingleByteData};
 use stand::{cjk_extra_score, data, memchr, Decoder, DecoderResult, Encoding};

@@ -6,6 +6,7 @@ mod drive;
 mod leaves;
 mod malformed;
 mod named;
+mod reasons;
 mod records;
 mod streams;
 pub mod tables;

@@ -1,6 +1,7 @@
 //! Which records a place can hold, as document 01 calls it in order. The
 //! drive takes no other, and the generator makes no other.
 
+use crate::reason::Reason;
 use crate::record::Record;
 
 /// The bytes of the longest stream, and so the bound on every count.
@@ -34,10 +35,21 @@ pub fn fresh(place: u8) -> Record {
 
 pub fn in_order(place: u8, record: &Record) -> bool {
     if !record.live {
-        return *record == Record::default();
+        return Reason::of_number(record.a).is_some_and(|reason| none(place, record, reason));
     }
     let score = record.score.unsigned_abs() <= STEP as u64 * LIMIT;
     score && kept(place, record) && !stray(place, record)
+}
+
+/// Without a score: a reason that the kind can have, and where.
+fn none(place: u8, record: &Record, reason: Reason) -> bool {
+    let furthest = match reason {
+        Reason::NotInSlate => 0,
+        // The space that the close feeds is one byte more.
+        Reason::Class255 => LIMIT + 1,
+        _ => LIMIT,
+    };
+    reason.fits(place) && record.x <= furthest && *record == Record::none(reason, record.x)
 }
 
 fn kept(place: u8, r: &Record) -> bool {

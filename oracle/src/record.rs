@@ -3,6 +3,8 @@
 mod candidate;
 mod of;
 
+use crate::reason::Reason;
+
 pub const SIZE: usize = 40;
 
 /// README.md says what the fields mean for each place.
@@ -21,6 +23,11 @@ pub struct Record {
 }
 
 impl Record {
+    /// Of a place without a score, and the place of the byte that failed.
+    pub fn none(reason: Reason, at: u64) -> Self {
+        Record { a: reason as u8, x: at, ..Record::default() }
+    }
+
     pub fn to_bytes(self) -> [u8; SIZE] {
         let mut bytes = [0; SIZE];
         bytes[..6].copy_from_slice(&[self.live as u8, self.a, self.b, self.c, self.d, self.e]);

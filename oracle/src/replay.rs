@@ -3,7 +3,7 @@
 use crate::digest;
 use crate::input::Input;
 use crate::lent;
-use crate::stream::Stream;
+use crate::trace::Trace;
 use std::io::{Read, Write};
 
 pub fn run(input: impl Read, out: &mut impl Write) -> std::io::Result<()> {
@@ -11,7 +11,7 @@ pub fn run(input: impl Read, out: &mut impl Write) -> std::io::Result<()> {
     if input.tables().is_none() {
         return writeln!(out, "bad input");
     }
-    let mut stream = Stream::start(0xFF);
+    let mut stream = Trace::start(0xFF);
     while let Some(command) = input.byte() {
         match answer(command, &mut input, &mut stream) {
             Some(text) => out.write_all(text.as_bytes())?,
@@ -63,9 +63,9 @@ pub fn count(input: impl Read, out: &mut impl Write) -> std::io::Result<()> {
 }
 
 /// What one command prints; `None` if it is malformed.
-fn answer<R: Read>(command: u8, input: &mut Input<R>, stream: &mut Stream) -> Option<String> {
+fn answer<R: Read>(command: u8, input: &mut Input<R>, stream: &mut Trace) -> Option<String> {
     match command {
-        b'S' => *stream = Stream::start(input.byte()?),
+        b'S' => *stream = Trace::start(input.byte()?),
         b'F' => {
             let last = input.flag()?;
             let (number, flag) = stream.feed(&input.chunk()?, last);

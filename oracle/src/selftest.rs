@@ -1,20 +1,22 @@
 //! Checks of the stand-ins, which no comparison with the given text can find
 //! wrong.
 
+use crate::alone::{self, Alone};
 use crate::lent;
 use crate::make::{tables, text};
 use crate::order::{fresh, in_order};
 use crate::random::Random;
+use crate::reach::Front;
 use crate::record::Record;
 use crate::stand::DecoderResult::{InputEmpty, Malformed, OutputFull};
 use crate::stand::{Decoder, DecoderResult, Encoding, BIG5, EUC_KR, ISO_2022_JP, UTF_8};
-use crate::stream::Stream;
+use crate::trace::Trace;
 use std::io::{Error, Result, Write};
 
 /// Prints one line a check; fails at the first that does not hold.
 pub fn run(folder: &str, out: &mut impl Write) -> Result<()> {
     lent::load(&tables::standard(folder)?.bytes);
-    let checks: [(&str, fn() -> bool); 9] = [
+    let checks: [(&str, fn() -> bool); 10] = [
         ("big5: 18590 pairs and 4 specials", || mapped(&BIG5) == (18_594, 1_713 + 4)),
         ("euc-kr: 17048 pairs", || mapped(&EUC_KR) == (17_048, 0)),
         ("iso-2022-jp: 7336 pairs", || japanese_pairs() == 7_336),
@@ -24,6 +26,7 @@ pub fn run(folder: &str, out: &mut impl Write) -> Result<()> {
         ("pairs: what is read", what_is_read),
         ("long inputs: output full", output_full),
         ("records: byte by byte as at once", records_carry_all),
+        ("front: what reaches the places", reached_as_fed),
     ];
     for (name, holds) in checks {
         if !holds() {
@@ -194,21 +197,56 @@ fn records_carry_all() -> bool {
             // The front end lets everything through from here.
             bytes.insert(0, 0x1B);
         }
-        let mut stream = Stream::start(1 << place);
-        stream.feed(&bytes, true);
-        let at_once = Record::of(&stream.detector.candidates[usize::from(place)]);
-        at_once == byte_by_byte(place, &bytes)
+        let mut trace = Trace::start(1 << place);
+        trace.feed(&bytes, true);
+        trace.places[usize::from(place)] == byte_by_byte(place, &bytes)
     })
 }
 
 fn byte_by_byte(place: u8, bytes: &[u8]) -> Record {
     let mut record = fresh(place);
-    let ends = std::iter::once((&[][..], true));
-    for (part, last) in bytes.chunks(1).map(|part| (part, false)).chain(ends) {
+    let anew = |record: Record| {
         assert!(in_order(place, &record));
-        let mut candidate = Record::from_bytes(&record.to_bytes()).candidate(place);
-        candidate.feed(part, last);
-        record = Record::of(&candidate);
+        Alone::start(place, &Record::from_bytes(&record.to_bytes()))
+    };
+    for (&byte, at) in bytes.iter().zip(1..) {
+        record = anew(record).byte(byte, at);
     }
-    record
+    anew(record).close(bytes.len() as u64)
+}
+
+/// What is worked out to reach the places is what the Rust feeds them: each
+/// place, a live one too, that gets it byte by byte ends as the Rust's.
+fn reached_as_fed() -> bool {
+    let mut random = Random::new(2);
+    (0..8_000).all(|_| {
+        let length = random.below(6) as usize;
+        let mut bytes = text::text(&mut random, text::Text::Ascii, length);
+        let kind = *random.pick(&text::ALL);
+        bytes.extend(text::text(&mut random, kind, 8));
+        cut_as_fed(&mut random, &bytes)
+    })
+}
+
+/// The same of one stream, which is cut anywhere and closed.
+fn cut_as_fed(random: &mut Random, bytes: &[u8]) -> bool {
+    let (mut trace, mut front) = (Trace::start(0xFF), Front::new());
+    let mut rest = bytes;
+    while !rest.is_empty() {
+        let (chunk, later) = rest.split_at(1 + random.below(rest.len().min(6) as u64) as usize);
+        let last = later.is_empty();
+        let mut expected = trace.places;
+        if let Some(reached) = front.reach(chunk) {
+            let close = last.then_some(front.body);
+            for (place, record) in expected.iter_mut().enumerate() {
+                *record = alone::end(place as u8, record, reached.with_places(), close);
+            }
+        }
+        trace.feed(chunk, last);
+        if trace.places != expected {
+            return false;
+        }
+        rest = later;
+    }
+    true
 }

@@ -1,5 +1,6 @@
 //! A place's line in the replay format.
 
+use crate::reason::Reason;
 use crate::record::Record;
 
 pub const NAMES: [&str; 8] =
@@ -17,7 +18,8 @@ fn name<'a>(names: &[&'a str], number: u8) -> &'a str {
 pub fn line(place: u8, record: &Record) -> String {
     let head = name(&NAMES, place);
     if !record.live {
-        return format!("{head} none\n");
+        let reason = Reason::of_number(record.a).expect("a record in order");
+        return format!("{head} none {} {}\n", reason.name(), record.x);
     }
     format!("{head} {} {}\n", record.score, fields(place, record))
 }

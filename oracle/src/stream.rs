@@ -3,13 +3,12 @@
 
 use crate::lent::SINGLE;
 use crate::order::LIMIT;
-use crate::record::Record;
 use crate::sheet;
 use crate::{BeforeNonAscii, Candidate, EncodingDetector, Iso2022JpDetection};
 
 pub struct Stream {
     pub detector: EncodingDetector,
-    bytes: u64,
+    pub bytes: u64,
 }
 
 impl Stream {
@@ -56,24 +55,7 @@ impl Stream {
         (0, self.detector.feed(chunk, last))
     }
 
-    /// The ten lines of the replay format's `Q`.
-    pub fn show(&self) -> String {
-        let detector = &self.detector;
-        let context: String = match detector.last_before_non_ascii.as_slice() {
-            [] => "-".into(),
-            bytes => bytes.iter().map(|byte| format!("{byte:02x}")).collect(),
-        };
-        let mut text = format!(
-            "front context={context} esc={} nonascii={} closed={} bytes={}\n",
-            detector.esc_seen as u8, detector.non_ascii_seen, detector.closed as u8, self.bytes
-        );
-        for (place, candidate) in detector.candidates.iter().enumerate() {
-            text += &sheet::line(place as u8, &Record::of(candidate));
-        }
-        text + &format!("leader {}\n", self.leader())
-    }
-
-    fn leader(&self) -> &'static str {
+    pub fn leader(&self) -> &'static str {
         if self.detector.non_ascii_seen == 0 && !self.detector.esc_seen {
             return "ascii";
         }

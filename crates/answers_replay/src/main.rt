@@ -102,6 +102,9 @@ fn main() {
     play_file(b"mild", b"cases");
     play_file(b"random", b"cases");
     play_file(b"demo", b"starts");
+    play_file(b"demo", b"reasons");
+    play_file(b"standard", b"reasons");
+    play_file(b"ascii255", b"reasons");
     play_cut(b"demo", 0);
     play_cut(b"demo", 1);
     play_cut(b"demo", 365_251);

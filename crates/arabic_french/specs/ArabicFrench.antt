@@ -5,7 +5,8 @@ use Prim.Native.Nat.{ℕ, _%_}
 use lib.Dec.{eqb}
 use lib.IntN.{ℤ, pos, _+ℤ_}
 use Rattle.laws.specs.Answer.{Answer, ran, unfit, answered, BoundedBy}
-use Rattle.laws.specs.Run.{Outcome, live, dropped}
+use Rattle.laws.specs.Run.{Outcome, none, live}
+use Rattle.laws.specs.declared.Reason.the-variants.{Class255}
 use Rattle.octets.specs.Octets.{ascii}
 use Rattle.weights.specs.Weights.{weightOf, case}
 use Rattle.single.specs.Class.{classOf, caselessOf, isCapital, latinLetter, alphabetic, unless255}
@@ -20,6 +21,8 @@ use Rattle.arabic_french.specs.declared.LatinCaseState.{LatinCaseState}
 use Rattle.arabic_french.specs.declared.LatinCaseState.the-variants.{Space, Upper, Lower, AllCaps}
 use Rattle.arabic_french.specs.declared.Ran.{Ran}
 use Rattle.arabic_french.specs.declared.Ran.the-variants.{Live, Dropped, Unfit}
+use Rattle.arabic_french.specs.declared.Stepped.{Stepped}
+use Rattle.arabic_french.specs.declared.Stepped.the-variants.{Live as SteppedLive, Dropped as SteppedDropped}
 
 abbrev pub fresh : ArabicFrench
 fresh = record { prev = 0; «case_state» = Space; «prev_ascii» = true; «current_word_len» = 0; «longest_word» = 0 }
@@ -75,11 +78,16 @@ soundB n m = commonB n (m .prev) (m .«current_word_len») (m .«longest_word»)
 -- ---- the answers
 abbrev pub answerOf : Ran → Answer ArabicFrench
 answerOf (Live m s) = ran (live m s)
-answerOf Dropped = ran dropped
+answerOf (Dropped d n) = ran (none d)
 answerOf Unfit = unfit
 
-abbrev pub ranAs : Outcome ArabicFrench → Ran
-ranAs o = answered Live Dropped o
+abbrev pub tookOf : Stepped → Answer ArabicFrench
+tookOf (SteppedLive m s) = ran (live m s)
+tookOf SteppedDropped = ran (none Class255)
+
+-- what happened, and where
+abbrev pub ranAs : ℕ → Outcome ArabicFrench → Ran
+ranAs at o = answered Live Dropped at o
 
 unfoldable pub ranOf : Lent → ArabicFrench → List ℕ → Ran
 ranOf t m xs = ranBy stepOf (soundB room) Live Dropped Unfit t m xs

@@ -8,7 +8,9 @@ use lib.Dec.{eqb}
 use lib.IntN.{ℤ, pos, _+ℤ_, +ℤ-idr}
 use lib.ListN.{getD}
 use borrow.Author.Tests.{ne-eqb}
-use Rattle.laws.specs.Run.{Outcome, live, none, dropped, Dropout}
+use Rattle.laws.specs.Run.{Outcome, live, none}
+use Rattle.laws.specs.declared.Reason.{Reason}
+use Rattle.laws.specs.declared.Reason.the-variants.{Class255}
 use Rattle.octets.specs.Octets.{ascii}
 use Rattle.single.specs.Before.{asciiBefore, asciiPairAt, not-first, one-back}
 use Rattle.single.specs.Class.{classOf, caselessOf, isCapital, latinLetter, alphabetic, alphabeticOf, unless255}
@@ -105,7 +107,7 @@ module _ (t : Lent) (m : ArabicFrench) (stale : LatinCaseState) (b : ℕ) where
   case-held : heldCase (caselessOf t b) stateOf ≡ caseOf (m .«case_state») (classOf t b)
   case-held = held (eqb (caselessOf t b) latinLetter) (cond (isCapital (classOf t b)) (capitalAfter (m .«case_state»)) Lower) stale
 
-  live-at : (x : Bool) (n : ArabicFrench) (k g : ℤ) → cond x dropped (live leftOf k) ≡ live n g → cond x dropped (live (nextOf t m b) k) ≡ live (flagged (ascii b) (heldCase (n .prev) (n .«case_state»)) n) g
+  live-at : (x : Bool) (n : ArabicFrench) (k g : ℤ) → cond x (none Class255) (live leftOf k) ≡ live n g → cond x (none Class255) (live (nextOf t m b) k) ≡ live (flagged (ascii b) (heldCase (n .prev) (n .«case_state»)) n) g
   live-at true n k g e = cc
   live-at false n k g e =
       let q : leftOf ≡ n = cc in
@@ -116,7 +118,7 @@ module _ (t : Lent) (m : ArabicFrench) (stale : LatinCaseState) (b : ℕ) where
   unfolding roughOf stepOf
   rough-live {n} {g} e = live-at (eqb (classOf t b) 255) n _ g e
 
-  pub rough-none : {d : Dropout} → roughOf ≡ none d → stepOf t m b ≡ none d
+  pub rough-none : {d : Reason} → roughOf ≡ none d → stepOf t m b ≡ none d
   unfolding roughOf stepOf
   rough-none e = none-is t b leftOf (nextOf t m b) _ _ e
 

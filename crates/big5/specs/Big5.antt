@@ -7,8 +7,9 @@ use lib.Dec.{leb, eqb}
 use lib.IntN.{ℤ, natAbs}
 use lib.ListN.{length}
 use Rattle.laws.specs.Answer.{Answer, ran, unfit, answered, answeredIf, Told, BoundedBy}
-use Rattle.laws.specs.Run.{Outcome, live, alive, dropped, run}
-use Rattle.pairs.specs.Pairs.{isLeadOrNone, releasedOf, smallHeldB}
+use Rattle.laws.specs.Run.{Outcome, none, live, alive, run, lastAt}
+use Rattle.laws.specs.declared.Reason.the-variants.{CutAtClose}
+use Rattle.pairs.specs.Pairs.{isLeadOrNone, reasonBy, releasedOf, smallHeldB}
 use Rattle.laws.specs.Limit.{limit}
 use Rattle.weights.specs.Weights.{term}
 use Rattle.lengths.specs.Lengths.{weightCount, big5Count}
@@ -39,17 +40,22 @@ pub record SmallScale (w : Scale) : Type 0 where
   pub extension : natAbs (w .extension) ≤ term
 
 -- ---- answers, as outcomes
-abbrev pub outOf : Stepped → Outcome Big5
-outOf (SteppedLive m s) = live m s
-outOf SteppedDropped = dropped
+-- of a step, by the lead before the byte
+abbrev pub outOf : ℕ → Stepped → Outcome Big5
+outOf before (SteppedLive m s) = live m s
+outOf before SteppedDropped = none (reasonBy before)
+
+-- of a step that stays alive, whatever the lead before the byte
+abbrev pub Gives : Stepped → Outcome Big5 → Type 0
+Gives r o = (before : ℕ) → outOf before r ≡ o
 
 abbrev pub answerOf : Ran → Answer Big5
 answerOf (Live m s) = ran (live m s)
-answerOf Dropped = ran dropped
+answerOf (Dropped d at) = ran (none d)
 answerOf Unfit = unfit
 
-abbrev pub ranAs : Outcome Big5 → Ran
-ranAs o = answered Live Dropped o
+abbrev pub ranAs : ℕ → Outcome Big5 → Ran
+ranAs at o = answered Live Dropped at o
 
 -- a live answer's score changes by at most c
 abbrev pub Bounded : ℕ → Ran → Type 0
@@ -72,11 +78,11 @@ pub record Ready (index : List ℕ) (weights : List ℤ) (m : Big5) (xs : List �
 
 -- the score starts from 0: what a run gives is its change
 unfoldable pub ranOf : List ℕ → List ℤ → Big5 → List ℕ → Ran
-ranOf index weights m xs = answeredIf Live Dropped Unfit (readyB index weights m xs) (run (stepOf (lent index (scaleOf weights))) (alive m) xs)
+ranOf index weights m xs = let step = stepOf (lent index (scaleOf weights)) in answeredIf Live Dropped Unfit (readyB index weights m xs) (lastAt step (alive m) xs) (run step (alive m) xs)
 
--- the end of the stream: none where a lead is pending; a held score counts nothing, and stays
+-- the end of the stream: none where a lead is pending, a cut at no byte; a held score counts nothing, and stays
 abbrev pub closeOf : Big5 → Outcome Big5
-closeOf m = cond (eqb (m .lead) 0) (alive m) dropped
+closeOf m = cond (eqb (m .lead) 0) (alive m) (none CutAtClose)
 
 unfoldable pub closedOf : Big5 → Ran
-closedOf m = answeredIf Live Dropped Unfit (soundB limit m) (closeOf m)
+closedOf m = answeredIf Live Dropped Unfit (soundB limit m) 0 (closeOf m)

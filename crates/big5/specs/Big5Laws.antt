@@ -1,5 +1,5 @@
--- Laws of the Big5 machine: what a record holds is kept, a byte adds at most five terms, the tests decide.
-use mathlib.Core.Path.{_≡_}
+-- Laws of the Big5 machine: what a record holds is kept, a byte adds at most five terms, the tests decide, why it drops out.
+use mathlib.Core.Path.{_≡_, refl}
 use mathlib.Core.Bool.{true, _&&_}
 use mathlib.Core.List.{List}
 use Prim.Native.Nat.{ℕ, _+_, _≤_}
@@ -10,11 +10,13 @@ use lib.ListN.{length}
 use borrow.Author.Tests.{leb-true, le-leb, eqb-true, eq-eqb}
 use Rattle.laws.specs.Tests.{both, picked}
 use Rattle.laws.specs.Answer.{if-fit}
-use Rattle.laws.specs.Run.{live, run, Within, alive}
+use Rattle.laws.specs.Run.{Outcome, none, live, run, lastAt, WhenNone, Within, alive}
 use Rattle.laws.specs.Sizes.{abs-add}
+use Rattle.laws.specs.declared.Reason.{Reason}
+use Rattle.laws.specs.declared.Reason.the-variants.{CutAtClose}
 use Rattle.octets.specs.Octets.{ascii, letter}
-use Rattle.pairs.specs.Pairs.{isLeadOrNone, releasedOf, SmallHeld, smallHeldB}
-use Rattle.pairs.specs.PairsLaws.{handler-lead, held-true, true-held}
+use Rattle.pairs.specs.Pairs.{isLeadOrNone, reasonBy, releasedOf, SmallHeld, smallHeldB}
+use Rattle.pairs.specs.PairsLaws.{handler-lead, held-true, true-held, OfPairs, reason-either}
 use Rattle.pairs.specs.declared.Event.{Event}
 use Rattle.pairs.specs.declared.Event.the-variants.{Pending, Point, Two, Error}
 use Rattle.pairs.specs.declared.Held.the-variants.{Nothing}
@@ -58,13 +60,13 @@ module _ (index : List ℕ) (weights : List ℤ) (m : Big5) (xs : List ℕ) wher
   true-ready r = rw (true-sound limit m (r .sound), le-leb _ _ (r .short), eq-eqb _ _ (r .index-length), eq-eqb _ _ (r .weights-length))
 
   -- what a caller that has tested uses
-  pub ran-ready : Ready index weights m xs → ranOf index weights m xs ≡ ranAs (run (stepOf (lent index (scaleOf weights))) (alive m) xs)
+  pub ran-ready : Ready index weights m xs → ranOf index weights m xs ≡ ranAs (lastAt (stepOf (lent index (scaleOf weights))) (alive m) xs) (run (stepOf (lent index (scaleOf weights))) (alive m) xs)
   unfolding ranOf
-  ran-ready r = if-fit _ _ _ _ _ (true-ready r)
+  ran-ready r = if-fit _ _ _ _ _ _ (true-ready r)
 
-pub closed-ready : (m : Big5) → Sound limit m → closedOf m ≡ ranAs (closeOf m)
+pub closed-ready : (m : Big5) → Sound limit m → closedOf m ≡ ranAs 0 (closeOf m)
 unfolding closedOf
-closed-ready m s = if-fit _ _ _ _ _ (true-sound limit m s)
+closed-ready m s = if-fit _ _ _ _ _ _ (true-sound limit m s)
 
 -- ---- each byte adds at most five terms, and leaves a record that Big5 can hold
 pub record Fair (s : Scored) : Type 0 where
@@ -152,3 +154,34 @@ step-within t small n m b s =
 -- the same of a step that was live
 pub turn-within : (t : Lent) → SmallScale (t .scale) → (n : ℕ) (m : Big5) (b : ℕ) (next : Big5) (g : ℤ) → Sound n m → stepOf t m b ≡ live next g → Sound (n + 1) next × (natAbs g ≤ perByte)
 turn-within t small n m b next g s e = rw e at (step-within t small n m b s)
+
+-- ---- why it drops out: at a byte by the lead before it, at the close as a cut
+module _ (w : Scale) (m : Big5) where
+  abbrev ByLead : Outcome Big5 → Type 0
+  ByLead o = WhenNone (λ d. d ≡ reasonBy (m .lead)) o
+
+  error-drops : (lead b k : ℕ) → ByLead (errorOf w m lead b k)
+  unfolding errorOf strayOf
+  error-drops lead b k =
+      picked ByLead (isPair (m .«prev_byte») b) tt
+      (picked ByLead (extends (m .«prev_byte») b) tt (picked ByLead (eqb k 1 && eqb b 0xFF) tt refl))
+
+  event-drops : (lead b : ℕ) (e : Event) → ByLead (onEvent w m lead b e)
+  event-drops lead b Pending = tt
+  event-drops lead b (Point p) = tt
+  event-drops lead b (Two p q) = tt
+  event-drops lead b (Error k) = error-drops lead b k
+
+pub step-why : (t : Lent) (m : Big5) (b : ℕ) (d : Reason) → stepOf t m b ≡ none d → d ≡ reasonBy (m .lead)
+unfolding stepOf
+step-why t m b r e =
+    let d = decodeOf (t .index) (m .lead) b in
+    rw e at (event-drops (t .scale) m (d .lead) b (d .event))
+
+pub step-reason : (t : Lent) (m : Big5) (b : ℕ) (d : Reason) → stepOf t m b ≡ none d → OfPairs d
+step-reason t m b d e = rw (step-why t m b d e) (reason-either (m .lead))
+
+pub close-reason : (m : Big5) (d : Reason) → closeOf m ≡ none d → d ≡ CutAtClose
+close-reason m d e =
+    let h : WhenNone (λ r. r ≡ CutAtClose) (closeOf m) = picked (WhenNone (λ r. r ≡ CutAtClose)) (eqb (m .lead) 0) tt refl in
+    rw e at h

@@ -8,7 +8,8 @@ use lib.IntN.{pos, _+ℤ_, +ℤ-idl, +ℤ-idr}
 use lib.ListN.{getD}
 use borrow.Author.Tests.{ne-eqb, lt-ltb, le-ltb}
 use Rattle.laws.specs.Lists.{any, isIn}
-use Rattle.laws.specs.Run.{live, plus, withByte, run, dropped}
+use Rattle.laws.specs.Run.{none, live, plus, withByte, run}
+use Rattle.laws.specs.declared.Reason.the-variants.{BadByte, BadSecondByte}
 use Rattle.octets.specs.Octets.{between}
 use Rattle.laws.specs.Handler.{varsOf}
 use Rattle.pairs.specs.Pairs.{isLead, decoded}
@@ -45,18 +46,18 @@ module _ (t : Lent) where
   fd-61 e = rw e (ap (live (rest Cj 0x61)) (+ℤ-idl (pos 0 +ℤ t .scale .pua +ℤ pos 0) ∙ (+ℤ-idr (pos 0 +ℤ t .scale .pua) ∙ +ℤ-idl (t .scale .pua))))
 
   -- A4 FF: none
-  pub a4-ff : run (stepOf t) (live fresh (pos 0)) (0xA4 ∷ 0xFF ∷ []) ≡ dropped
+  pub a4-ff : run (stepOf t) (live fresh (pos 0)) (0xA4 ∷ 0xFF ∷ []) ≡ none BadSecondByte
   unfolding run withByte plus stepOf decodeOf first returned varsOf eventOf pointsAs errorOf strayOf any
   a4-ff = refl
 
   -- 80 alone: none
-  pub lone-80 : run (stepOf t) (live fresh (pos 0)) (0x80 ∷ []) ≡ dropped
+  pub lone-80 : run (stepOf t) (live fresh (pos 0)) (0x80 ∷ []) ≡ none BadByte
   unfolding run withByte plus stepOf decodeOf first varsOf eventOf errorOf strayOf any
   lone-80 = refl
 
   -- ---- states that no stream leads to, and what the rules' widths take in
   -- a lead A4 after a byte 00, then an unmapped A1: none, for the rule looks at the byte before
-  pub a4-after-00 : (prev : LatinCj) (held : Held) → isMapped (getD (t .index) (pointerOf 0xA4 0xA1) 0) ≡ false → stepOf t (record { lead = 0xA4; prev = prev; «prev_byte» = 0x00; held = held }) 0xA1 ≡ dropped
+  pub a4-after-00 : (prev : LatinCj) (held : Held) → isMapped (getD (t .index) (pointerOf 0xA4 0xA1) 0) ≡ false → stepOf t (record { lead = 0xA4; prev = prev; «prev_byte» = 0x00; held = held }) 0xA1 ≡ none BadSecondByte
   unfolding stepOf decodeOf pointsOf indexed returned varsOf eventOf pointsAs errorOf strayOf any
   a4-after-00 prev held e = rw e
 

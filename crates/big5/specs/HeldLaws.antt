@@ -9,9 +9,10 @@ use lib.Dec.{ltb, eqb}
 use lib.IntN.{ℤ, pos, _+ℤ_}
 use borrow.Author.Tests.{not-true, eq-eqb}
 use Rattle.laws.specs.Tests.{both, picked}
-use Rattle.laws.specs.Run.{Outcome, none, live, dropped}
+use Rattle.laws.specs.Run.{Outcome, none, live}
+use Rattle.laws.specs.declared.Reason.{Reason}
 use Rattle.octets.specs.Octets.{between, ascii, letter}
-use Rattle.pairs.specs.Pairs.{isHeldLead, releasedOf}
+use Rattle.pairs.specs.Pairs.{isHeldLead, reasonBy, releasedOf}
 use Rattle.pairs.specs.declared.Event.{Event}
 use Rattle.pairs.specs.declared.Event.the-variants.{Pending, Point, Two, Error}
 use Rattle.pairs.specs.declared.Held.the-variants.{Nothing, Score}
@@ -84,9 +85,9 @@ module _ (w : Scale) (m : Big5) where
   unfolding Whys WhyOut
   why-after v lead b s h k e = inr (h k e)
 
-  why-none : (v : Event) → WhyOut v dropped
+  why-none : (v : Event) (d : Reason) → WhyOut v (none d)
   unfolding WhyOut
-  why-none v = tt
+  why-none v d = tt
 
   why-error : (lead b n : ℕ) → WhyOut (Error n) (errorOf w m lead b n)
   unfolding errorOf strayOf unmappedOf
@@ -94,7 +95,7 @@ module _ (w : Scale) (m : Big5) where
       let v = Error n in
       picked (WhyOut v) (isPair (m .«prev_byte») b) (why-after v lead b (unmappedOf w m) (why-not Cj _))
       (picked (WhyOut v) (extends (m .«prev_byte») b) (why-after v lead b (extensionOf w b) (why-extension b))
-      (picked (WhyOut v) (eqb n 1 && eqb b 0xFF) (why-after v lead b (scored Other Nothing (w .extension)) (why-not Other _)) (why-none v)))
+      (picked (WhyOut v) (eqb n 1 && eqb b 0xFF) (why-after v lead b (scored Other Nothing (w .extension)) (why-not Other _)) (why-none v (reasonBy (m .lead)))))
 
   why-event : (lead b : ℕ) (v : Event) → WhyOut v (onEvent w m lead b v)
   unfolding WhyOut otherOf

@@ -5,9 +5,9 @@ use Prim.Native.Nat.{ℕ}
 use lib.Dec.{ltb, eqb}
 use lib.IntN.{ℤ, pos, _+ℤ_}
 use Rattle.laws.specs.Lists.{isIn}
-use Rattle.laws.specs.Run.{Outcome, live, dropped}
+use Rattle.laws.specs.Run.{Outcome, none, live}
 use Rattle.octets.specs.Octets.{between, ascii, letter}
-use Rattle.pairs.specs.Pairs.{isLead, isHeldLead, releasedOf}
+use Rattle.pairs.specs.Pairs.{isLead, isHeldLead, reasonBy, releasedOf}
 use Rattle.pairs.specs.declared.Event.{Event}
 use Rattle.pairs.specs.declared.Event.the-variants.{Pending, Point, Two, Error}
 use Rattle.pairs.specs.declared.Held.{Held}
@@ -133,7 +133,7 @@ module _ (w : Scale) (m : Big5) where
   unfoldable pub strayOf : ℕ → ℕ → ℕ → Outcome Big5
   strayOf lead b length =
       cond (extends (m .«prev_byte») b) (afterByte lead b (extensionOf w b))
-      (cond (eqb length 1 && eqb b 0xFF) (afterByte lead b (scored Other Nothing (w .extension))) dropped)
+      (cond (eqb length 1 && eqb b 0xFF) (afterByte lead b (scored Other Nothing (w .extension))) (none (reasonBy (m .lead))))
 
   unfoldable pub errorOf : ℕ → ℕ → ℕ → Outcome Big5
   errorOf lead b length = cond (isPair (m .«prev_byte») b) (afterByte lead b (unmappedOf w m)) (strayOf lead b length)

@@ -10,9 +10,9 @@ use borrow.Author.Tests.{eq-eqb, ne-eqb, lt-ltb, le-ltb}
 use mir.Syntax.{w64}
 use mir.Val.{SFits}
 use Rattle.laws.specs.Tests.{picked}
-use Rattle.laws.specs.Run.{dropped}
+use Rattle.laws.specs.Run.{none}
 use Rattle.octets.specs.Octets.{between}
-use Rattle.pairs.specs.Pairs.{releasedOf, SmallHeld}
+use Rattle.pairs.specs.Pairs.{reasonBy, releasedOf, SmallHeld}
 use Rattle.pairs.specs.Sums.{kept, sum-fits, sum-read, sum3-fits, sum3-read}
 use Rattle.pairs.specs.declared.Decoded.{Decoded}
 use Rattle.pairs.specs.declared.Event.{Event}
@@ -83,7 +83,7 @@ module _ (w : Scale) (m : Big5) (lead b length : ℕ) where
   unfolding strayOf
   stray-alone e p q = rw (e, eq-eqb length 1 p, eq-eqb b 0xFF q)
 
-  pub stray-none : extends (m .«prev_byte») b ≡ false → (length ≡ 1 → ⊥) ⊎ (b ≡ 0xFF → ⊥) → dropped ≡ strayOf w m lead b length
+  pub stray-none : extends (m .«prev_byte») b ≡ false → (length ≡ 1 → ⊥) ⊎ (b ≡ 0xFF → ⊥) → none (reasonBy (m .lead)) ≡ strayOf w m lead b length
   unfolding strayOf
   stray-none e (inl p) = rw (e, ne-eqb length 1 p)
   stray-none e (inr p) = rw (e, ne-eqb b 0xFF p, and-no (eqb length 1))

@@ -4,13 +4,14 @@ ghost use mathlib.Core.Bool.{true};
 ghost use Prim.Native.Nat.{_*_, _≤_, _<_};
 ghost use lib.IntN.{pos, natAbs};
 ghost use lib.ListN.{length};
-ghost use Rattle.laws.specs.Run.{alive, run};
+ghost use Rattle.laws.specs.Run.{alive, run, lastAt};
 ghost use Rattle.pairs.specs.Pairs.{SmallHeld};
 ghost use Rattle.laws.specs.Limit.{limit};
 ghost use Rattle.weights.specs.Weights.{term, perByte};
 ghost use Rattle.lengths.specs.Lengths.{big5Count};
 ghost use Rattle.big5.specs.Scoring.{scaleOf, isHanzi, isDistinct, besideOf, holdsOf, hanziWeight, letterOf, hanziOf, otherOf, unitOf, pointOf, unmappedOf, extensionOf, isPair, isExtension, afterByte, strayOf, errorOf, lent, fresh, stepOf, scored};
-ghost use Rattle.big5.specs.Big5.{Sound, soundB, SmallScale, outOf, ranAs, Bounded, Weighed, readyB, ranOf, closedOf};
+ghost use Rattle.big5.specs.Big5.{Sound, soundB, SmallScale, outOf, Gives, ranAs, Bounded, Weighed, readyB, ranOf, closedOf};
+use laws::Reason;
 use pairs::Event;
 use pairs::Held;
 
@@ -28,10 +29,11 @@ pub struct Big5 {
     pub held: Held,
 }
 
-// What a stretch gives: the record after it and by how much the score changed, or none; or it was not fit to be run.
+// What a stretch gives: the record after it and by how much the score changed, or none, with the reason and the byte's offset in
+// the part; or it was not fit to be run.
 pub enum Ran {
     Live(Big5, i64),
-    Dropped,
+    Dropped(Reason, usize),
     Unfit,
 }
 
@@ -311,7 +313,7 @@ fn extension(b: u8, w: Scale) -> Scored
 
 // The record after a byte.
 fn after_byte(lead: u8, b: u8, s: Scored) -> Stepped
-    ensures { λ r. ⌜ outOf r ≡ afterByte lead b s ⌝ }
+    ensures { λ r. ⌜ Gives r (afterByte lead b s) ⌝ }
 {
     let prev = s.prev;
     let held = s.held;
@@ -330,7 +332,7 @@ impl Big5 {
     // An error that is no pair in range: an extension, or the machine drops out.
     fn stray(self, lead: u8, b: u8, size: u8, w: Scale) -> Stepped
         requires { ⌜ SmallScale w ⌝ }
-        ensures { λ r. ⌜ outOf r ≡ strayOf w self lead b size ⌝ }
+        ensures { λ r. ⌜ outOf (self .lead) r ≡ strayOf w self lead b size ⌝ }
     {
         if is_extension(self.prev_byte) {
             if b < 0x80 {
@@ -359,7 +361,7 @@ impl Big5 {
     fn error(self, lead: u8, b: u8, size: u8, w: Scale) -> Stepped
         requires { ⌜ SmallScale w ⌝ }
         requires { ⌜ SmallHeld (self .held) ⌝ }
-        ensures { λ r. ⌜ outOf r ≡ errorOf w self lead b size ⌝ }
+        ensures { λ r. ⌜ outOf (self .lead) r ≡ errorOf w self lead b size ⌝ }
     {
         if is_pair(self.prev_byte, b) {
             return after_byte(lead, b, self.unmapped(w));
@@ -371,7 +373,7 @@ impl Big5 {
         requires { ⌜ SmallScale w ⌝ }
         requires { ⌜ Sound limit self ⌝ }
         requires { ⌜ length (now index) ≡ big5Count ⌝ }
-        ensures { λ r. ⌜ outOf r ≡ stepOf (lent (now (index .entry)) w) self b ⌝ }
+        ensures { λ r. ⌜ outOf (self .lead) r ≡ stepOf (lent (now (index .entry)) w) self b ⌝ }
     {
         let d = big5_decoder::decode(self.lead, b, index);
         let event = d.event;
@@ -385,7 +387,7 @@ impl Big5 {
 
     // A lead changes nothing else.
     fn pending(self, lead: u8, b: u8) -> Stepped
-        ensures { λ r. ⌜ outOf r ≡ afterByte lead b (scored (self .prev) (self .held) (pos 0)) ⌝ }
+        ensures { λ r. ⌜ outOf (self .lead) r ≡ afterByte lead b (scored (self .prev) (self .held) (pos 0)) ⌝ }
     {
         let prev = self.prev;
         let held = self.held;
@@ -405,7 +407,7 @@ impl Big5 {
         requires { ⌜ Sound limit self ⌝ }
         requires { ⌜ length (now part) ≤ limit ⌝ }
         requires { ⌜ length (now index) ≡ big5Count ⌝ }
-        ensures { λ r. ⌜ r ≡ ranAs (run (stepOf (lent (now (index .entry)) w)) (alive self) (now (part .entry))) ⌝ }
+        ensures { λ r. ⌜ r ≡ ranAs (lastAt (stepOf (lent (now (index .entry)) w)) (alive self) (now (part .entry))) (run (stepOf (lent (now (index .entry)) w)) (alive self) (now (part .entry))) ⌝ }
         ensures { λ r. ⌜ Bounded (perByte * length (now (part .entry))) r ⌝ }
     {
         let mut m = self;
@@ -418,7 +420,7 @@ impl Big5 {
                     s = s + gain;
                 }
                 Stepped::Dropped => {
-                    return Ran::Dropped;
+                    return Ran::Dropped(pairs::reason(m.lead), i);
                 }
             }
             i += 1;
@@ -445,7 +447,7 @@ impl Big5 {
         Ran::Unfit
     }
 
-    // The end of the stream: none where a lead is pending. A held score counts nothing, and stays.
+    // The end of the stream: none where a lead is pending, at no byte. A held score counts nothing, and stays.
     pub fn close(self) -> Ran
         ensures { λ r. ⌜ r ≡ closedOf self ⌝ }
     {
@@ -453,7 +455,7 @@ impl Big5 {
             if self.lead == 0 {
                 return Ran::Live(self, 0);
             }
-            return Ran::Dropped;
+            return Ran::Dropped(Reason::CutAtClose, 0);
         }
         Ran::Unfit
     }

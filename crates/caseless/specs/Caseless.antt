@@ -3,7 +3,8 @@ use mathlib.Core.Bool.{Bool, true}
 use mathlib.Core.List.{List}
 use Prim.Native.Nat.{ℕ}
 use Rattle.laws.specs.Answer.{Answer, ran, unfit, answered, BoundedBy}
-use Rattle.laws.specs.Run.{Outcome, live, dropped}
+use Rattle.laws.specs.Run.{Outcome, none, live}
+use Rattle.laws.specs.declared.Reason.the-variants.{Class255}
 use Rattle.octets.specs.Octets.{ascii}
 use Rattle.single.specs.Class.{caselessOf, alphabetic, unless255}
 use Rattle.laws.specs.Limit.{room}
@@ -15,6 +16,8 @@ use Rattle.single.specs.Words.{wordOf, longestOf}
 use Rattle.caseless.specs.declared.Caseless.{Caseless}
 use Rattle.caseless.specs.declared.Ran.{Ran}
 use Rattle.caseless.specs.declared.Ran.the-variants.{Live, Dropped, Unfit}
+use Rattle.caseless.specs.declared.Stepped.{Stepped}
+use Rattle.caseless.specs.declared.Stepped.the-variants.{Live as SteppedLive, Dropped as SteppedDropped}
 
 abbrev pub fresh : Caseless
 fresh = record { prev = 0; «prev_ascii» = true; «current_word_len» = 0; «longest_word» = 0 }
@@ -45,11 +48,16 @@ soundB n m = commonB n (m .prev) (m .«current_word_len») (m .«longest_word»)
 -- ---- the answers
 abbrev pub answerOf : Ran → Answer Caseless
 answerOf (Live m s) = ran (live m s)
-answerOf Dropped = ran dropped
+answerOf (Dropped d n) = ran (none d)
 answerOf Unfit = unfit
 
-abbrev pub ranAs : Outcome Caseless → Ran
-ranAs o = answered Live Dropped o
+abbrev pub tookOf : Stepped → Answer Caseless
+tookOf (SteppedLive m s) = ran (live m s)
+tookOf SteppedDropped = ran (none Class255)
+
+-- what happened, and where
+abbrev pub ranAs : ℕ → Outcome Caseless → Ran
+ranAs at o = answered Live Dropped at o
 
 unfoldable pub ranOf : Lent → Caseless → List ℕ → Ran
 ranOf t m xs = ranBy stepOf (soundB room) Live Dropped Unfit t m xs

@@ -3,10 +3,10 @@ ghost use mathlib.Core.Path.{_≡_};
 ghost use mathlib.Core.Bool.{true, false};
 ghost use Prim.Native.Nat.{_*_, _<_, _≤_};
 ghost use lib.ListN.{length, getD};
-ghost use Rattle.laws.specs.Answer.{ran};
-ghost use Rattle.laws.specs.Run.{alive, live, run};
+ghost use Rattle.laws.specs.Answer.{ran, BoundedBy};
+ghost use Rattle.laws.specs.Run.{alive, live, run, lastAt};
 ghost use Rattle.weights.specs.Weights.{perByte};
-ghost use Rattle.caseless.specs.Caseless.{fresh, stepOf, answerOf, ranAs, ranOf, closedOf, Sound, soundB, Bounded};
+ghost use Rattle.caseless.specs.Caseless.{fresh, stepOf, tookOf, ranAs, ranOf, closedOf, Sound, soundB, Bounded};
 ghost use Rattle.caseless.specs.Noted.{pairAt, noted, bare, leftBy, gainFrom, roughOf};
 ghost use Rattle.laws.specs.Limit.{room};
 ghost use Rattle.single.specs.Before.{asciiBefore};
@@ -14,6 +14,7 @@ ghost use Rattle.single.specs.Class.{alphabeticOf};
 ghost use Rattle.single.specs.Fit.{Fit};
 ghost use Rattle.single.specs.Lent.{lent, Sized};
 ghost use Rattle.single.specs.Rest.{Rests};
+use laws::Reason;
 
 pub struct Caseless {
     pub prev: u8,
@@ -22,12 +23,18 @@ pub struct Caseless {
     pub longest_word: u64,
 }
 
-// The record after a byte, a part of a chunk or the close, and by how much the score changed; or class 255 was met; or
-// the record is none that the kind can hold, a lent length is wrong, or the part is too long.
+// The record after a part of a chunk or the close, and by how much the score changed; or class 255 was met, with the byte's
+// offset in the part; or the record is none that the kind can hold, a lent length is wrong, or the part is too long.
 pub enum Ran {
     Live(Caseless, i64),
-    Dropped,
+    Dropped(Reason, usize),
     Unfit,
+}
+
+// The record after a byte and the change of the score; or class 255 was met.
+enum Stepped {
+    Live(Caseless, i64),
+    Dropped,
 }
 
 impl Caseless {
@@ -98,20 +105,20 @@ impl Caseless {
         marks: &[u8],
         pairs: &[i16],
         weights: &[i32],
-    ) -> Ran
+    ) -> Stepped
         requires { ⌜ i < length (now part) ⌝ }
         requires { ⌜ Sound (2 * room) self ⌝ }
         requires { ⌜ alphabeticOf (now marks) current ≡ true ⌝ }
-        ensures { λ r. ⌜ answerOf r ≡ ran (live (leftBy (noted (now (part .entry)) i self) (getD (now (part .entry)) i 0) current true) (gainFrom (now (marks .entry)) (now (pairs .entry)) (now (weights .entry)) (noted (now (part .entry)) i self) (getD (now (part .entry)) i 0) current)) ⌝ }
-        ensures { λ r. ⌜ Bounded perByte r ⌝ }
+        ensures { λ r. ⌜ tookOf r ≡ ran (live (leftBy (noted (now (part .entry)) i self) (getD (now (part .entry)) i 0) current true) (gainFrom (now (marks .entry)) (now (pairs .entry)) (now (weights .entry)) (noted (now (part .entry)) i self) (getD (now (part .entry)) i 0) current)) ⌝ }
+        ensures { λ r. ⌜ BoundedBy perByte (tookOf r) ⌝ }
     {
         let words = single::words_after(self.current_word_len, self.longest_word, true);
         let next = Self::bare(current, words.current, words.longest);
         if self.is_ascii_pair(part, i) {
-            return Ran::Live(next, 0);
+            return Stepped::Live(next, 0);
         }
         let score = single::marked_gain(self.prev, current, true, marks, pairs, weights);
-        Ran::Live(next, score)
+        Stepped::Live(next, score)
     }
 
     // A byte between words, and so is the one before: no word ends, and none is beside a Latin letter.
@@ -123,19 +130,19 @@ impl Caseless {
         marks: &[u8],
         pairs: &[i16],
         weights: &[i32],
-    ) -> Ran
+    ) -> Stepped
         requires { ⌜ i < length (now part) ⌝ }
         requires { ⌜ self .«current_word_len» ≡ 0 ⌝ }
         requires { ⌜ alphabeticOf (now marks) (self .prev) ≡ false ⌝ }
         requires { ⌜ alphabeticOf (now marks) current ≡ false ⌝ }
-        ensures { λ r. ⌜ answerOf r ≡ ran (live (leftBy (noted (now (part .entry)) i self) (getD (now (part .entry)) i 0) current false) (gainFrom (now (marks .entry)) (now (pairs .entry)) (now (weights .entry)) (noted (now (part .entry)) i self) (getD (now (part .entry)) i 0) current)) ⌝ }
-        ensures { λ r. ⌜ Bounded perByte r ⌝ }
+        ensures { λ r. ⌜ tookOf r ≡ ran (live (leftBy (noted (now (part .entry)) i self) (getD (now (part .entry)) i 0) current false) (gainFrom (now (marks .entry)) (now (pairs .entry)) (now (weights .entry)) (noted (now (part .entry)) i self) (getD (now (part .entry)) i 0) current)) ⌝ }
+        ensures { λ r. ⌜ BoundedBy perByte (tookOf r) ⌝ }
     {
         let next = Self::bare(current, 0, self.longest_word);
         if self.is_ascii_pair(part, i) {
-            return Ran::Live(next, 0);
+            return Stepped::Live(next, 0);
         }
-        Ran::Live(next, single::pair_score(self.prev, current, pairs))
+        Stepped::Live(next, single::pair_score(self.prev, current, pairs))
     }
 
     // A byte of any other class.
@@ -147,13 +154,13 @@ impl Caseless {
         marks: &[u8],
         pairs: &[i16],
         weights: &[i32],
-    ) -> Ran
+    ) -> Stepped
         requires { ⌜ i < length (now part) ⌝ }
         requires { ⌜ Sound (2 * room) self ⌝ }
         requires { ⌜ Rests (now marks) i (self .«current_word_len») (self .prev) ⌝ }
         requires { ⌜ alphabeticOf (now marks) current ≡ false ⌝ }
-        ensures { λ r. ⌜ answerOf r ≡ ran (live (leftBy (noted (now (part .entry)) i self) (getD (now (part .entry)) i 0) current false) (gainFrom (now (marks .entry)) (now (pairs .entry)) (now (weights .entry)) (noted (now (part .entry)) i self) (getD (now (part .entry)) i 0) current)) ⌝ }
-        ensures { λ r. ⌜ Bounded perByte r ⌝ }
+        ensures { λ r. ⌜ tookOf r ≡ ran (live (leftBy (noted (now (part .entry)) i self) (getD (now (part .entry)) i 0) current false) (gainFrom (now (marks .entry)) (now (pairs .entry)) (now (weights .entry)) (noted (now (part .entry)) i self) (getD (now (part .entry)) i 0) current)) ⌝ }
+        ensures { λ r. ⌜ BoundedBy perByte (tookOf r) ⌝ }
     {
         if single::is_at_rest(i, self.current_word_len) {
             return self.between(part, i, current, marks, pairs, weights);
@@ -161,10 +168,10 @@ impl Caseless {
         let words = single::words_after(self.current_word_len, self.longest_word, false);
         let next = Self::bare(current, words.current, words.longest);
         if self.is_ascii_pair(part, i) {
-            return Ran::Live(next, 0);
+            return Stepped::Live(next, 0);
         }
         let score = single::marked_gain(self.prev, current, false, marks, pairs, weights);
-        Ran::Live(next, score)
+        Stepped::Live(next, score)
     }
 
     // Byte i of a part.
@@ -176,17 +183,17 @@ impl Caseless {
         marks: &[u8],
         pairs: &[i16],
         weights: &[i32],
-    ) -> Ran
+    ) -> Stepped
         requires { ⌜ Sized (lent (now classes) (now marks) (now pairs) (now weights)) ⌝ }
         requires { ⌜ i < length (now part) ⌝ }
         requires { ⌜ Sound (2 * room) self ⌝ }
         requires { ⌜ Rests (now marks) i (self .«current_word_len») (self .prev) ⌝ }
-        ensures { λ r. ⌜ answerOf r ≡ ran (roughOf (lent (now (classes .entry)) (now (marks .entry)) (now (pairs .entry)) (now (weights .entry))) (noted (now (part .entry)) i self) (getD (now (part .entry)) i 0)) ⌝ }
-        ensures { λ r. ⌜ Bounded perByte r ⌝ }
+        ensures { λ r. ⌜ tookOf r ≡ ran (roughOf (lent (now (classes .entry)) (now (marks .entry)) (now (pairs .entry)) (now (weights .entry))) (noted (now (part .entry)) i self) (getD (now (part .entry)) i 0)) ⌝ }
+        ensures { λ r. ⌜ BoundedBy perByte (tookOf r) ⌝ }
     {
         let class = classes[part[i] as usize];
         if class == single::NO_CLASS {
-            return Ran::Dropped;
+            return Stepped::Dropped;
         }
         let current = class % Self::CLASSES;
         if single::is_non_latin_alphabetic(marks, current) {
@@ -204,25 +211,18 @@ impl Caseless {
         weights: &[i32],
     ) -> Ran
         requires { ⌜ Fit (lent (now classes) (now marks) (now pairs) (now weights)) (Sound room self) (length (now part)) ⌝ }
-        ensures { λ r. ⌜ r ≡ ranAs (run (stepOf (lent (now (classes .entry)) (now (marks .entry)) (now (pairs .entry)) (now (weights .entry)))) (alive self) (now (part .entry))) ⌝ }
+        ensures { λ r. ⌜ r ≡ ranAs (lastAt (stepOf (lent (now (classes .entry)) (now (marks .entry)) (now (pairs .entry)) (now (weights .entry)))) (alive self) (now (part .entry))) (run (stepOf (lent (now (classes .entry)) (now (marks .entry)) (now (pairs .entry)) (now (weights .entry)))) (alive self) (now (part .entry))) ⌝ }
         ensures { λ r. ⌜ Bounded (perByte * length (now (part .entry))) r ⌝ }
     {
         let mut m = self;
         let mut score: i64 = 0;
         let mut i = 0;
         while i < part.len() {
-            match m.step(part, i, classes, marks, pairs, weights) {
-                Ran::Live(next, gain) => {
-                    m = next;
-                    score = score + gain;
-                }
-                Ran::Dropped => {
-                    return Ran::Dropped;
-                }
-                Ran::Unfit => {
-                    return Ran::Unfit;
-                }
-            }
+            let Stepped::Live(next, gain) = m.step(part, i, classes, marks, pairs, weights) else {
+                return Ran::Dropped(Reason::Class255, i);
+            };
+            m = next;
+            score = score + gain;
             i += 1;
         }
         Ran::Live(m.noted(part, i), score)

@@ -55,4 +55,5 @@ WithinBy c g (After k) = (k ≡ length (bytesOf c)) × Here g
 pub record Roomy (f : Front) (bytes : ℕ) : Type 0 where
   pub accepted : f .bytes ≤ limit
   pub seen : f .«non_ascii_seen» ≤ limit
+  pub bodied : f .body ≤ limit
   pub short : bytes ≤ limit

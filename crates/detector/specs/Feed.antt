@@ -31,13 +31,15 @@ verdictOf s sized n =
 abbrev pub refusalOf : Tables → State → List ℕ → Verdict
 refusalOf t s xs = verdictOf s (sizedB t) (length xs)
 
--- ---- the advance: the saved context's bytes, not as last, and then the chunk's
-unfoldable pub placesBy : Tables → Bool → List Place → Reaches → List Place
-placesBy t last ps none = ps
-placesBy t last ps (some before part) = feedAll t last part (feedAll t false before ps)
+-- ---- the advance: the saved context's bytes, not as last, and then the chunk's; `body` bytes from the end of the head on have
+-- come with the chunk's, and none with the context's
+unfoldable pub placesBy : Tables → Bool → ℕ → List Place → Reaches → List Place
+placesBy t last body ps none = ps
+placesBy t last body ps (some before part) = feedAll t last body part (feedAll t false 0 before ps)
 
 unfoldable pub advanceOf : Tables → State → List ℕ → Bool → State
-advanceOf t s xs last = record { front = frontOf (s .front) xs last; places = placesBy t last (s .places) (reachesOf (s .front) xs) }
+advanceOf t s xs last =
+    record { front = frontOf (s .front) xs last; places = placesBy t last (frontOf (s .front) xs last .body) (s .places) (reachesOf (s .front) xs) }
 
 -- ---- a feed: refused, and the state as before; or accepted
 abbrev pub fed : State → Reply → Fed

@@ -25,7 +25,7 @@ use Rattle.detector.specs.Kept.{Passed, StaysIn}
 use Rattle.state.specs.State.{flagOf, triggered, startOf}
 use Rattle.detector.specs.Front.{triggerOf, Reaches, none, some, reachesOf, bytesIn, counted, uncounted}
 use Rattle.detector.specs.Due.{dueAs, DueBy}
-use Rattle.detector.specs.FrontLaws.{triggerless-count}
+use Rattle.detector.specs.FrontLaws.{body-more, body-most, triggerless-count}
 use Rattle.state.specs.Order.{InOrder, stateB}
 use Rattle.state.specs.OrderLaws.{order-true, true-order, start-in-order}
 use Rattle.detector.specs.OrderLaws.{KeptBy, advance-in-order}
@@ -119,17 +119,27 @@ first-passed t z bits xs h = record { sized = z; in-order = start-in-order bits;
 
 -- ---- the advance
 module _ (t : Tables) (s : State) (xs : List ℕ) (last : Bool) (passed : Passed t s xs) where
+  -- the front after the chunk, uncounted
+  abbrev after : Front
+  after = uncounted (s .front) xs last (triggerOf (s .front) xs)
+
+  body-grows : s .front .body ≤ after .body
+  body-grows = body-more (s .front .body) xs (triggerOf (s .front) xs)
+
+  pub body-short : after .body ≤ limit
+  body-short = omega (arith, body-most (s .front .body) xs (triggerOf (s .front) xs), passed .in-order .front .bodied, passed .short)
+
   -- what the code's answer d says
   module _ (d : Due) (due : DueBy (s .front .context) (triggerOf (s .front) xs) d) where
     abbrev Result : State → Type 0
     Result r = (r ≡ advanceOf t s xs last) × InOrder r
 
     -- from the reach that d stands for, and what the code knows of the places
-    advanced : (x : Reaches) → dueAs (s .front .context) xs d ≡ x → KeptBy t last (s .places) x → Result (record { front = counted (uncounted (s .front) xs last (triggerOf (s .front) xs)) (bytesIn x); places = placesBy t last (s .places) x })
+    advanced : (x : Reaches) → dueAs (s .front .context) xs d ≡ x → KeptBy t last (after .body) (s .places) x → Result (record { front = counted after (bytesIn x); places = placesBy t last (after .body) (s .places) x })
     unfolding advanceOf
     advanced x e k =
         let q : x ≡ reachesOf (s .front) xs = sym e ∙ due xs in
-        let r : record { front = counted (uncounted (s .front) xs last (triggerOf (s .front) xs)) (bytesIn x); places = placesBy t last (s .places) x } ≡ advanceOf t s xs last = rw q in
+        let r : record { front = counted after (bytesIn x); places = placesBy t last (after .body) (s .places) x } ≡ advanceOf t s xs last = rw q in
         (r, subst InOrder (sym r) (advance-in-order t s xs last passed (rw q at k)))
 
     -- nothing reaches the places
@@ -137,36 +147,37 @@ module _ (t : Tables) (s : State) (xs : List ℕ) (last : Bool) (passed : Passed
     unfolding count
     counted-nil f = rw add-zero
 
-    pub way-nothing : d ≡ Nothing → (next : Front) → next ≡ uncounted (s .front) xs last (triggerOf (s .front) xs) → Result (record { front = next; places = s .places })
+    pub way-nothing : d ≡ Nothing → (next : Front) → next ≡ after → Result (record { front = next; places = s .places })
     unfolding dueAs placesBy
     way-nothing q next e =
-        let f = uncounted (s .front) xs last (triggerOf (s .front) xs) in
-        subst (λ (x : Front). Result (record { front = x; places = s .places })) (counted-nil f ∙ sym e) (advanced none (rw q) tt)
+        subst (λ (x : Front). Result (record { front = x; places = s .places })) (counted-nil after ∙ sym e) (advanced none (rw q) tt)
 
     -- the chunk from n on
     module _ (n : ℕ) (q : d ≡ Part n) (part : List ℕ) (from : part ≡ drop n xs) where
-      slate-before : SlateFor (s .front .bytes) false (triggered (s .front)) (s .places)
+      slate-before : SlateFor (s .front .bytes) (s .front .body) false (triggered (s .front)) (s .places)
       slate-before = rw (passed .going) at (passed .in-order .slate)
 
       part-short : s .front .bytes + length part ≤ limit
       part-short = rw (from, length-drop) (omega (arith, passed .short))
 
-      pub way-part : (next front : Front) (r : List Place) → next ≡ uncounted (s .front) xs last (triggerOf (s .front) xs) → front ≡ counted next part → r ≡ slateFed t last part (s .places) → SlateKnown t last part (s .places) → Result (record { front = front; places = r })
+      pub way-part : (next front : Front) (r : List Place) → next ≡ after → front ≡ counted next part → r ≡ slateFed t last (next .body) part (s .places) → SlateKnown t last (next .body) part (s .places) → Result (record { front = front; places = r })
       unfolding dueAs placesBy
       way-part next front r a b e k =
-          let w = slate-fed t (passed .sized) (s .front .bytes) part part-short last (triggered (s .front)) (s .places) slate-before k in
-          let nil = feed-all-nil t (s .places) in
-          let kept : AllKept t last part (s .places) = w .1 in
-          let places : feedAll t last part (feedAll t false [] (s .places)) ≡ r = ap (feedAll t last part) nil ∙ sym (e ∙ w .0) in
-          let fronts : counted (uncounted (s .front) xs last (triggerOf (s .front) xs)) part ≡ front = ap (λ (f : Front). counted f part) (sym a) ∙ sym b in
+          let known : SlateKnown t last (after .body) part (s .places) = subst (λ (f : Front). SlateKnown t last (f .body) part (s .places)) a k in
+          let w = slate-fed t (passed .sized) (s .front .bytes) (s .front .body) (after .body) body-grows body-short part part-short last (triggered (s .front)) (s .places) slate-before known in
+          let nil = feed-all-nil t 0 (s .places) in
+          let kept : AllKept t last (after .body) part (s .places) = w .1 in
+          let same : slateFed t last (after .body) part (s .places) ≡ r = ap (λ (f : Front). slateFed t last (f .body) part (s .places)) (sym a) ∙ sym e in
+          let places : feedAll t last (after .body) part (feedAll t false 0 [] (s .places)) ≡ r = ap (feedAll t last (after .body) part) nil ∙ (sym (w .0) ∙ same) in
+          let fronts : counted after part ≡ front = ap (λ (f : Front). counted f part) (sym a) ∙ sym b in
           subst (λ (x : Front). Result (record { front = x; places = r })) fronts
-          (subst (λ (ps : List Place). Result (record { front = counted (uncounted (s .front) xs last (triggerOf (s .front) xs)) part; places = ps })) places
-          (advanced (some [] part) (rw (q, from)) (nil-kept t 0 (s .places), rw nil kept)))
+          (subst (λ (ps : List Place). Result (record { front = counted after part; places = ps })) places
+          (advanced (some [] part) (rw (q, from)) (nil-kept t 0 0 (s .places), rw nil kept)))
 
     -- the saved context, and then the whole chunk
     module _ (k : ℕ) (q : d ≡ After k) (lent : take k (s .front .context .first ∷ s .front .context .second ∷ []) ≡ bytesOf (s .front .context)) (new : triggered (s .front) ≡ false) (before : List ℕ) (saved : before ≡ take k (s .front .context .first ∷ s .front .context .second ∷ [])) where
-      unfed : SlateFor 0 false false (s .places)
-      unfed = slate-unfed (s .front .bytes) 0 false (s .places) (omega arith) (rw (passed .going, new) at (passed .in-order .slate))
+      unfed : SlateFor 0 0 false false (s .places)
+      unfed = slate-unfed (s .front .bytes) 0 (s .front .body) 0 false (s .places) (omega arith) (rw (passed .going, new) at (passed .in-order .slate))
 
       -- it is of the stream's own bytes
       before-short : length before ≤ s .front .bytes
@@ -176,15 +187,18 @@ module _ (t : Tables) (s : State) (xs : List ℕ) (last : Bool) (passed : Passed
       before-uncounted : (f : Front) → counted f (before ++ xs) ≡ counted f xs
       before-uncounted f = rw (saved, lent, count-append, triggerless-count (bytesOf (s .front .context)) (passed .in-order .front .saved .triggerless), zero-add)
 
-      pub way-after : (next front : Front) (r : List Place) → next ≡ uncounted (s .front) xs last (triggerOf (s .front) xs) → front ≡ counted next xs → r ≡ slateFed t last xs (fedEach t before (s .places)) → AllKnown t before (s .places) → SlateKnown t last xs (fedEach t before (s .places)) → Result (record { front = front; places = r })
+      pub way-after : (next front : Front) (r : List Place) → next ≡ after → front ≡ counted next xs → r ≡ slateFed t last (next .body) xs (fedEach t 0 before (s .places)) → AllKnown t before (s .places) → SlateKnown t last (next .body) xs (fedEach t 0 before (s .places)) → Result (record { front = front; places = r })
       unfolding dueAs placesBy
       way-after next front r a b e k l =
-          let hot = feedAll t false before (s .places) in
-          let y = slate-fed t (passed .sized) 0 before (omega (arith, before-short, passed .short)) false false (s .places) unfed k in
-          let slate = fed-slate t false false before 0 (s .places) (omega (arith, before-short, passed .short)) (y .1) unfed in
-          let z = slate-fed t (passed .sized) (0 + length before) xs (omega (arith, before-short, passed .short)) last true hot slate (subst (SlateKnown t last xs) (y .0) l) in
-          let places : feedAll t last xs (feedAll t false before (s .places)) ≡ r = sym (e ∙ (ap (slateFed t last xs) (y .0) ∙ z .0)) in
-          let plain : counted (uncounted (s .front) xs last (triggerOf (s .front) xs)) (before ++ xs) ≡ front = before-uncounted (uncounted (s .front) xs last (triggerOf (s .front) xs)) ∙ (ap (λ (f : Front). counted f xs) (sym a) ∙ sym b) in
+          let body = after .body in
+          let hot = feedAll t false 0 before (s .places) in
+          let y = slate-fed t (passed .sized) 0 0 0 (omega arith) (omega arith) before (omega (arith, before-short, passed .short)) false false (s .places) unfed k in
+          let slate = fed-slate t false 0 before false 0 0 (s .places) (omega (arith, before-short, passed .short)) (omega arith) (y .1) unfed in
+          let known : SlateKnown t last (after .body) xs (feedAll t false 0 before (s .places)) = subst (λ (f : Front). SlateKnown t last (f .body) xs (feedAll t false 0 before (s .places))) a (subst (SlateKnown t last (next .body) xs) (y .0) l) in
+          let z = slate-fed t (passed .sized) (0 + length before) 0 body (omega arith) body-short xs (omega (arith, before-short, passed .short)) last true hot slate known in
+          let same : r ≡ slateFed t last (after .body) xs hot = e ∙ (ap (slateFed t last (next .body) xs) (y .0) ∙ ap (λ (f : Front). slateFed t last (f .body) xs hot) a) in
+          let places : feedAll t last (after .body) xs (feedAll t false 0 before (s .places)) ≡ r = sym (same ∙ z .0) in
+          let plain : counted after (before ++ xs) ≡ front = before-uncounted after ∙ (ap (λ (f : Front). counted f xs) (sym a) ∙ sym b) in
           subst (λ (x : Front). Result (record { front = x; places = r })) plain
-          (subst (λ (ps : List Place). Result (record { front = counted (uncounted (s .front) xs last (triggerOf (s .front) xs)) (before ++ xs); places = ps })) places
+          (subst (λ (ps : List Place). Result (record { front = counted after (before ++ xs); places = ps })) places
           (advanced (some before xs) (rw (q, saved)) (y .1, z .1)))

@@ -63,13 +63,21 @@ escBy e (Escape n) = true
 escBy e (NonAscii n) = e
 escBy e Nowhere = e
 
+-- ---- the bytes from the end of the head on: those from the trigger on, and after it all
+unfoldable pub bodyBy : ℕ → List ℕ → Trigger → ℕ
+bodyBy n xs Earlier = n + length xs
+bodyBy n xs (Escape at) = n + (length xs - at)
+bodyBy n xs (NonAscii at) = n + (length xs - at)
+bodyBy n xs Nowhere = n
+
 -- ---- 4. the non-ASCII count grows by the bytes at or above 0x80 that are fed
 abbrev pub counted : Front → List ℕ → Front
-counted f part = record { context = f .context; «esc_seen» = f .«esc_seen»; «non_ascii_seen» = f .«non_ascii_seen» + nonAsciiCount part; closed = f .closed; bytes = f .bytes }
+counted f part =
+    record { context = f .context; «esc_seen» = f .«esc_seen»; «non_ascii_seen» = f .«non_ascii_seen» + nonAsciiCount part; closed = f .closed; bytes = f .bytes; body = f .body }
 
 abbrev pub uncounted : Front → List ℕ → Bool → Trigger → Front
 uncounted f xs last g =
-    record { context = contextBy (f .context) xs g; «esc_seen» = escBy (f .«esc_seen») g; «non_ascii_seen» = f .«non_ascii_seen»; closed = last; bytes = f .bytes + length xs }
+    record { context = contextBy (f .context) xs g; «esc_seen» = escBy (f .«esc_seen») g; «non_ascii_seen» = f .«non_ascii_seen»; closed = last; bytes = f .bytes + length xs; body = bodyBy (f .body) xs g }
 
 -- the front after a chunk
 abbrev pub frontOf : Front → List ℕ → Bool → Front

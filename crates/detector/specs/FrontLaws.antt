@@ -19,7 +19,7 @@ use Rattle.context.specs.declared.Context.{Context}
 use Rattle.context.specs.declared.Scanned.{Scanned}
 use Rattle.context.specs.declared.Scanned.the-variants as scanned
 use Rattle.state.specs.State.{triggered}
-use Rattle.detector.specs.Front.{foundAs, triggerOf, Reaches, some, reachesAt, reachesBy, bytesIn, contextAt}
+use Rattle.detector.specs.Front.{foundAs, triggerOf, Reaches, some, reachesAt, reachesBy, bytesIn, contextAt, bodyBy}
 use Rattle.detector.specs.Due.{dueAs, DueAt, DueBy, triggerOffset, Here, WithinAt, WithinBy}
 use Rattle.state.specs.Order.{Saved}
 use Rattle.detector.specs.declared.front.Due.{Due}
@@ -128,6 +128,22 @@ module _ (f : Front) (xs : List ℕ) (g : Trigger) (e : g ≡ triggerOf f xs) (d
   pub after-new : (k : ℕ) → d ≡ After k → triggered f ≡ false
   unfolding triggerOf
   after-new k q = let h : (k ≡ length (bytesOf (f .context))) × Here g = rw q at w in here-new (triggered f) e (h .1)
+
+-- ---- the bytes from the end of the head on
+module _ (n : ℕ) (xs : List ℕ) where
+  pub body-more : (g : Trigger) → n ≤ bodyBy n xs g
+  unfolding bodyBy
+  body-more Earlier = omega arith
+  body-more (Escape at) = omega arith
+  body-more (NonAscii at) = omega arith
+  body-more Nowhere = omega arith
+
+  pub body-most : (g : Trigger) → bodyBy n xs g ≤ n + length xs
+  unfolding bodyBy
+  body-most Earlier = omega arith
+  body-most (Escape at) = omega arith
+  body-most (NonAscii at) = omega arith
+  body-most Nowhere = omega arith
 
 -- ---- triggerless bytes: neither 0x1B nor non-ASCII
 pub triggerless-count : (xs : List ℕ) → any isTrigger xs ≡ false → nonAsciiCount xs ≡ 0

@@ -1,3 +1,4 @@
+pub mod BodyLaws
 pub mod Due
 pub mod Feed
 pub mod FeedLaws

@@ -4,8 +4,9 @@ use mathlib.Core.Bool.{false, true}
 use mathlib.Core.List.{List, [], _∷_, _++_}
 use mathlib.Core.Logic.{_⊎_}
 use Prim.Native.Nat.{ℕ, _≤_}
+use lib.ListN.{length, drop}
 use Rattle.laws.specs.Lists.{any, last}
-use Rattle.context.specs.Head.{isTrigger}
+use Rattle.context.specs.Head.{isTrigger, headOf}
 use Rattle.detector.specs.Front.{Reaches, none, some, bytesIn, reachesOf, frontOf}
 use Rattle.state.specs.declared.front.Front.{Front}
 
@@ -22,6 +23,15 @@ reachedBy f (x ∷ xs) = bytesIn (reachesOf f x) ++ reachedBy (frontOf f x false
 abbrev pub Something : Reaches → Type 0
 Something none = ⊥
 Something (some before part) = Unit {0}
+
+-- n bytes from the end of the head on are all of the part
+abbrev pub Within : ℕ → Reaches → Type 0
+Within n none = Unit {0}
+Within n (some before part) = n ≤ length part
+
+-- the bytes of a stream from the end of its head on
+abbrev pub restOf : List ℕ → List ℕ
+restOf stream = drop (length (headOf stream)) stream
 
 -- it begins with a trigger
 abbrev pub Begins : List ℕ → Type 0

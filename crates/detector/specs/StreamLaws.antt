@@ -7,7 +7,7 @@ use Prim.Native.Nat.{ℕ, _+_, _-_, _<_, _≤_}
 use native.Mathlib.Nat.{add-zero, zero-add}
 use native.Mathlib.Omega.{arith}
 use lib.Dec.{eqb, ltb}
-use lib.ListN.{length, getD, take, drop, length-take, length-append, take-append-drop}
+use lib.ListN.{length, getD, take, drop, length-take, length-drop, length-append, take-append-drop}
 use lib.Seq.{drop-cons, drop-append-le}
 use borrow.Author.Tests.{lt-ltb, ltb-true, ltb-false, eq-eqb}
 use Rattle.laws.specs.Lists.{any, count, last, any-append, any-drop, count-append, last-append, last-length}
@@ -20,10 +20,10 @@ use Rattle.context.specs.HeadLaws.{FirstAt, scan-first}
 use Rattle.context.specs.declared.Scanned.{Scanned}
 use Rattle.context.specs.declared.Scanned.the-variants as scanned
 use Rattle.state.specs.State.{fresh, triggered}
-use Rattle.detector.specs.Front.{foundAs, triggerOf, none, some, reachesAt, reachesBy, reachesOf, bytesIn, contextBy, escBy, frontOf}
+use Rattle.detector.specs.Front.{foundAs, triggerOf, none, some, reachesAt, reachesBy, reachesOf, bytesIn, contextBy, escBy, bodyBy, frontOf}
 use Rattle.detector.specs.FrontLaws.{triggerless-count, no-trigger, non-ascii-at, at-least}
 use Rattle.state.specs.Order.{Saved}
-use Rattle.detector.specs.Stream.{frontThrough, reachedBy, Something, Begins, FromHead, FromStream}
+use Rattle.detector.specs.Stream.{frontThrough, reachedBy, Something, Within, Begins, FromHead, FromStream}
 use Rattle.state.specs.declared.front.Front.{Front}
 
 -- ---- after a trigger all chunks whole
@@ -40,6 +40,10 @@ module _ (f : Front) (x : List ℕ) (e : triggered f ≡ true) where
   whole : bytesIn (reachesOf f x) ≡ x
   whole = ap bytesIn whole-reach
 
+  pub whole-body : frontOf f x false .body ≡ f .body + length x
+  unfolding triggerOf bodyBy
+  whole-body = rw e
+
   pub stays-triggered : triggered (frontOf f x false) ≡ true
   unfolding triggerOf escBy
   stays-triggered = rw e (grown (f .«esc_seen») (f .«non_ascii_seen») _ e)
@@ -55,6 +59,7 @@ pub record Untriggered (pre : List ℕ) (f : Front) : Type 0 where
   pub context-is : f .context ≡ contextOf (last 2 pre)
   pub no-escape : f .«esc_seen» ≡ false
   pub none-seen : f .«non_ascii_seen» ≡ 0
+  pub no-body : f .body ≡ 0
 
 -- a chunk that is saved
 pub record Saves (pre x : List ℕ) (f : Front) : Type 0 where
@@ -65,6 +70,7 @@ pub record Saves (pre x : List ℕ) (f : Front) : Type 0 where
 pub record Meets (x : List ℕ) (f : Front) : Type 0 where
   pub now : triggered (frontOf f x false) ≡ true
   pub reaches : Something (reachesOf f x)
+  pub within : Within (frontOf f x false .body) (reachesOf f x)
 
 pub not-triggered : (pre : List ℕ) (f : Front) → Untriggered pre f → triggered f ≡ false
 not-triggered pre f q = rw (q .no-escape, q .none-seen)
@@ -75,7 +81,7 @@ module _ (pre x : List ℕ) (f : Front) (q : Untriggered pre f) where
   found r e = rw (not-triggered pre f q, e)
 
   untriggered-next : scanOf x ≡ scanned.End → Untriggered (pre ++ x) (frontOf f x false)
-  unfolding contextBy escBy reachesBy count
+  unfolding contextBy escBy bodyBy reachesBy count
   untriggered-next e =
       let g = found scanned.End e in
       record {
@@ -83,6 +89,7 @@ module _ (pre x : List ℕ) (f : Front) (q : Untriggered pre f) where
         context-is = rw (g, q .context-is) (push-context pre x);
         no-escape = rw g (q .no-escape);
         none-seen = rw (g, add-zero) (q .none-seen);
+        no-body = rw g (q .no-body);
       }
 
   nothing-reaches : scanOf x ≡ scanned.End → reachesOf f x ≡ none
@@ -189,19 +196,23 @@ module _ (pre x : List ℕ) (f : Front) (q : Untriggered pre f) where
   unfolding reachesAt
   some-at n = picked Something (ltb n 2) tt tt
 
+  within-at : (n : ℕ) → Within (f .body + (length x - n)) (reachesAt (f .context) x n)
+  unfolding reachesAt
+  within-at n = rw (q .no-body) (picked (Within (0 + (length x - n))) (ltb n 2) (omega arith) (rw length-drop (omega arith)))
+
   pub chunk-way : Saves pre x f ⊎ Meets x f
-  unfolding reachesBy
+  unfolding reachesBy bodyBy
   chunk-way = at (scanOf x) refl
     where
       at : (r : Scanned) → scanOf x ≡ r → Saves pre x f ⊎ Meets x f
-      at (scanned.Escape n) e = inr (record { now = now-escape n e; reaches = rw (found (scanned.Escape n) e) (some-at n) })
-      at (scanned.NonAscii n) e = inr (record { now = now-non-ascii n e; reaches = rw (found (scanned.NonAscii n) e) (some-at n) })
+      at (scanned.Escape n) e = let g = found (scanned.Escape n) e in inr (record { now = now-escape n e; reaches = rw g (some-at n); within = rw g (within-at n) })
+      at (scanned.NonAscii n) e = let g = found (scanned.NonAscii n) e in inr (record { now = now-non-ascii n e; reaches = rw g (some-at n); within = rw g (within-at n) })
       at scanned.End e = inl (record { next = untriggered-next e; nothing = nothing-reaches e })
 
 -- ---- the whole stream
 pub fresh-untriggered : Untriggered [] fresh
 unfolding last any
-fresh-untriggered = record { triggerless = refl; context-is = refl; no-escape = refl; none-seen = refl }
+fresh-untriggered = record { triggerless = refl; context-is = refl; no-escape = refl; none-seen = refl; no-body = refl }
 
 with-rest : (pre x : List ℕ) (xs : List (List ℕ)) (f : Front) → triggered (frontOf f x false) ≡ true → FromHead (pre ++ (x ++ flatten xs)) (bytesIn (reachesOf f x) ++ flatten xs) → FromStream (pre ++ flatten (x ∷ xs)) (reachedBy f (x ∷ xs))
 unfolding reachedBy flatten
@@ -247,7 +258,7 @@ chunk-met pre x xs f q more (scanned.Escape n) e = stays-met (frontOf f x false)
 chunk-met pre x xs f q more (scanned.NonAscii n) e = stays-met (frontOf f x false) xs (now-non-ascii pre x f q n e) ∙ sym (has-one _ _ (at-non-ascii pre x f q n (flatten xs) e))
 chunk-met pre x xs f q more scanned.End e = more (untriggered-next pre x f q e) ∙ ap (any isTrigger) (append-assoc pre x (flatten xs))
 
-met-from : (pre : List ℕ) (f : Front) (chunks : List (List ℕ)) → Untriggered pre f → triggered (frontThrough f chunks) ≡ any isTrigger (pre ++ flatten chunks)
+pub met-from : (pre : List ℕ) (f : Front) (chunks : List (List ℕ)) → Untriggered pre f → triggered (frontThrough f chunks) ≡ any isTrigger (pre ++ flatten chunks)
 unfolding frontThrough flatten
 met-from pre f [] q = not-triggered pre f q ∙ sym (ap (any isTrigger) (append-nil pre) ∙ q .triggerless)
 met-from pre f (x ∷ xs) q = chunk-met pre x xs f q (λ (n : Untriggered (pre ++ x) (frontOf f x false)). met-from (pre ++ x) (frontOf f x false) xs n) (scanOf x) refl

@@ -107,6 +107,7 @@ pub fn feed(
             let places = state.places;
             let trigger = front::trigger_in(front, chunk);
             let next = front::uncounted(front, trigger, chunk, last);
+            let body = next.body;
             match front::due_by(front, trigger) {
                 Due::Nothing => accepted(next, places),
                 Due::Part(from) => {
@@ -115,6 +116,7 @@ pub fn feed(
                         places,
                         part,
                         last,
+                        body,
                         classes4,
                         marks4,
                         pairs4,
@@ -143,6 +145,7 @@ pub fn feed(
                         &saved[..count],
                         chunk,
                         last,
+                        body,
                         classes4,
                         marks4,
                         pairs4,

@@ -1,8 +1,9 @@
 // The front end: which bytes of a chunk reach the places, and what is known after it.
 ghost use mathlib.Core.Path.{_≡_};
+ghost use Prim.Native.Nat.{_-_};
 ghost use lib.ListN.{length};
 ghost use Rattle.detector.specs.Due.{DueAt, DueBy, WithinAt, WithinBy, Roomy};
-ghost use Rattle.detector.specs.Front.{triggerOf, contextAt, contextBy, escBy, uncounted, counted};
+ghost use Rattle.detector.specs.Front.{triggerOf, contextAt, contextBy, escBy, bodyBy, uncounted, counted};
 use context;
 use context::Context;
 use context::Scanned;
@@ -93,6 +94,31 @@ fn escaped(front: Front, trigger: Trigger) -> bool
     }
 }
 
+// How many of so many bytes stand from an offset on.
+fn from_offset(at: usize, bytes: u64) -> u64
+    ensures { λ r. ⌜ r ≡ bytes - at ⌝ }
+{
+    if at as u64 <= bytes {
+        return bytes - at as u64;
+    }
+    0
+}
+
+// How many bytes from the end of the head on there are after a chunk.
+fn body_after(front: Front, trigger: Trigger, chunk: &[u8]) -> u64
+    requires { ⌜ Roomy front (length (now chunk)) ⌝ }
+    ensures { λ r. ⌜ r ≡ bodyBy (front .body) (now (chunk .entry)) trigger ⌝ }
+{
+    let body = front.body;
+    let bytes = chunk.len() as u64;
+    match trigger {
+        Trigger::Earlier => body + bytes,
+        Trigger::Escape(at) => body + from_offset(at, bytes),
+        Trigger::NonAscii(at) => body + from_offset(at, bytes),
+        Trigger::Nowhere => body,
+    }
+}
+
 // After a chunk; the non-ASCII bytes among those that reach the places are still to be counted.
 pub(crate) fn uncounted(front: Front, trigger: Trigger, chunk: &[u8], last: bool) -> Front
     requires { ⌜ Roomy front (length (now chunk)) ⌝ }
@@ -104,6 +130,7 @@ pub(crate) fn uncounted(front: Front, trigger: Trigger, chunk: &[u8], last: bool
         non_ascii_seen: front.non_ascii_seen,
         closed: last,
         bytes: front.bytes + chunk.len() as u64,
+        body: body_after(front, trigger, chunk),
     }
 }
 
@@ -118,5 +145,6 @@ pub(crate) fn counted(front: Front, part: &[u8]) -> Front
         non_ascii_seen: front.non_ascii_seen + context::count_non_ascii(part),
         closed: front.closed,
         bytes: front.bytes,
+        body: front.body,
     }
 }

@@ -41,7 +41,7 @@ fn each(
     let mut i = 0;
     while i < part.len() {
         let b = part[i];
-        let next = Next::Byte(b);
+        let next = Next::Byte(b, i);
         p = place::fed(p, next, part, classes, marks, pairs, index, extras, weights);
         d = record::add(d, p);
         i += 1;

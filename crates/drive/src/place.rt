@@ -4,31 +4,57 @@
 // gets hang on them. So each kind's function is called twice here, and each machine's loop is compiled by itself.
 use kinds::machine::Machine;
 use kinds::machine::Ran;
+use laws::Reason;
 use libc::STDOUT_FILENO;
 use places::place::Place;
 use places::place::Score;
 
-// What comes to a machine in one call.
+// What comes to a machine in one call: all bytes of the case, one byte and how many came before it, or the end.
 pub(crate) enum Next {
     Part,
-    Byte(u8),
+    Byte(u8, usize),
     End,
 }
 
-// A machine that refuses says so in a line, which no answer of the Rust has.
-fn settled(machine: Machine, before: i64, ran: Ran) -> Place {
-    if let Ran::Live(next, change) = ran {
-        return Place {
+// How many bytes of a case of so many came before it.
+fn before(next: Next, bytes: usize) -> usize {
+    match next {
+        Next::Part => 0,
+        Next::Byte(_, i) => i,
+        Next::End => bytes,
+    }
+}
+
+// How many bytes of the call a machine took that dropped out at this offset; the end is none.
+fn taken(reason: Reason, at: usize) -> u64 {
+    match reason {
+        Reason::CutAtClose => 0,
+        _ => std::num::wrapping_add_u64(at as u64, 1),
+    }
+}
+
+// The byte at which a machine drops out is counted from 1 at the case's first; so many came before this call. A machine that
+// refuses says so in a line, which no answer of the Rust has.
+fn settled(machine: Machine, old: i64, ran: Ran, bytes: usize) -> Place {
+    match ran {
+        Ran::Live(next, change) => Place {
             machine: next,
-            score: Score::Live(signed::sum(before, change)),
-        };
-    }
-    if let Ran::Unfit = ran {
-        io::write_all(STDOUT_FILENO, b"unfit\n");
-    }
-    Place {
-        machine,
-        score: Score::None,
+            score: Score::Live(signed::sum(old, change)),
+        },
+        Ran::Dropped(reason, at) => Place {
+            machine,
+            score: Score::None(
+                reason,
+                std::num::wrapping_add_u64(bytes as u64, taken(reason, at)),
+            ),
+        },
+        Ran::Unfit => {
+            io::write_all(STDOUT_FILENO, b"unfit\n");
+            Place {
+                machine,
+                score: Score::None(Reason::NotInSlate, 0),
+            }
+        }
     }
 }
 
@@ -77,7 +103,7 @@ fn after_byte(
     }
 }
 
-// The place after what comes next. The part is read only where all of it comes.
+// The place after what comes next. The part is all of the case; it is read only where all of it comes.
 pub(crate) fn fed(
     p: Place,
     next: Next,
@@ -91,13 +117,13 @@ pub(crate) fn fed(
 ) -> Place {
     let machine = p.machine;
     let score = p.score;
-    let Score::Live(before) = score else {
+    let Score::Live(old) = score else {
         return p;
     };
     let ran = match next {
         Next::Part => after_part(machine, part, classes, marks, pairs, index, extras, weights),
-        Next::Byte(b) => after_byte(machine, b, classes, marks, pairs, index, extras, weights),
+        Next::Byte(b, _) => after_byte(machine, b, classes, marks, pairs, index, extras, weights),
         Next::End => machine.close(classes, marks, pairs, index, extras, weights),
     };
-    settled(machine, before, ran)
+    settled(machine, old, ran, before(next, part.len()))
 }

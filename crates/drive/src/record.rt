@@ -11,6 +11,7 @@ use iso2022jp::DecoderState;
 use iso2022jp::Iso2022Jp;
 use iso2022jp::OutputState;
 use kinds::machine::Machine;
+use laws::Reason;
 use logical::Logical;
 use pairs::Held;
 use places::place::Place;
@@ -151,9 +152,20 @@ fn machine_of(f: &[u8; 41]) -> Machine {
     single_of(f, x, y, z)
 }
 
+fn reason_of(n: u8) -> Reason {
+    match n {
+        1 => Reason::Class255,
+        2 => Reason::BadByte,
+        3 => Reason::BadSecondByte,
+        4 => Reason::BrokenEscape,
+        5 => Reason::CutAtClose,
+        _ => Reason::NotInSlate,
+    }
+}
+
 fn score_of(f: &[u8; 41]) -> Score {
     if f[1] == 0 {
-        return Score::None;
+        return Score::None(reason_of(f[2]), number::eight(f, 17));
     }
     Score::Live(signed::of_bits64(number::eight(f, 9)))
 }
@@ -285,6 +297,17 @@ fn of_arabic_french(m: ArabicFrench) -> Fields {
     Fields(m.prev, flag(m.prev_ascii), c, 0, 0, x, m.longest_word, 0)
 }
 
+fn reason_number(d: Reason) -> u8 {
+    match d {
+        Reason::Class255 => 1,
+        Reason::BadByte => 2,
+        Reason::BadSecondByte => 3,
+        Reason::BrokenEscape => 4,
+        Reason::CutAtClose => 5,
+        Reason::NotInSlate => 6,
+    }
+}
+
 fn fields_of(machine: Machine) -> Fields {
     match machine {
         Machine::Utf8(m) => Fields(m.need, m.lo, m.hi, 0, 0, 0, 0, 0),
@@ -318,15 +341,20 @@ fn with_number(d: Digest, n: u64) -> Digest {
     )
 }
 
-// The digest with a record's 40 bytes.
+fn with_record(d: Digest, live: u8, score: u64, f: Fields) -> Digest {
+    let small = d.with(&[live, f.0, f.1, f.2, f.3, f.4, 0, 0]);
+    let scored = with_number(small, score);
+    with_number(with_number(with_number(scored, f.5), f.6), f.7)
+}
+
+// The digest with a record's 40 bytes. Without a score they have the reason as a and the place of the byte as x.
 pub(crate) fn add(d: Digest, p: Place) -> Digest {
     let machine = p.machine;
     let score = p.score;
-    let Score::Live(n) = score else {
-        return d.with(&[0u8; 40]);
-    };
-    let f = fields_of(machine);
-    let small = d.with(&[1, f.0, f.1, f.2, f.3, f.4, 0, 0]);
-    let scored = with_number(small, signed::bits(n));
-    with_number(with_number(with_number(scored, f.5), f.6), f.7)
+    match score {
+        Score::None(reason, at) => {
+            with_record(d, 0, 0, Fields(reason_number(reason), 0, 0, 0, 0, at, 0, 0))
+        }
+        Score::Live(n) => with_record(d, 1, signed::bits(n), fields_of(machine)),
+    }
 }

@@ -5,6 +5,7 @@ use mathlib.Core.List.{List, [], _∷_}
 use Prim.Native.Nat.{ℕ, _^_}
 use lib.IntN.{ℤ, pos, _+ℤ_}
 use lib.ListN.{getD, set}
+use Rattle.laws.specs.declared.Reason.the-variants.{BadByte, BadSecondByte, BrokenEscape}
 use Rattle.weights.specs.Weights.{indexOf, weightOf, big5Pua, big5Extension, longWord}
 use Rattle.context.specs.Context.{bytesOf}
 use Rattle.iso2022jp.specs.Iso2022Jp as iso2022jp
@@ -30,10 +31,12 @@ use Rattle.state.specs.declared.State.{State}
 abbrev pub stateAfter : Tables → State → List ℕ → State
 stateAfter t s xs = feedOf t s xs false .state
 
--- of a chunk, `part` is fed, after `before`, which was saved: the front says so, and every place gets it
-pub record FedAs (t : Tables) (s : State) (xs before part : List ℕ) : Type 0 where
+-- of a chunk, `part` is fed, after `before`, which was saved: the front says so, and every place gets it; with the chunk, `body`
+-- bytes have come from the end of the head on
+pub record FedAs (t : Tables) (s : State) (xs before part : List ℕ) (body : ℕ) : Type 0 where
   pub reach : reachesOf (s .front) xs ≡ some before part
-  pub fed : (last : Bool) → feedOf t s xs last .state .places ≡ feedAll t last part (feedAll t false before (s .places))
+  pub bodied : (last : Bool) → feedOf t s xs last .state .front .body ≡ body
+  pub fed : (last : Bool) → feedOf t s xs last .state .places ≡ feedAll t last body part (feedAll t false 0 before (s .places))
 
 -- a first chunk leaves p in place k, if place k takes part
 abbrev pub Leaves : Tables → ℕ → ℕ → List ℕ → Place → Type 0
@@ -69,28 +72,28 @@ pub record EdgeTable (t : Tables) (bits : ℕ) : Type 0 where
   -- saved 61, 62, 63 in single chunks: context 62 63
   pub saved-singly : bytesOf (stateAfter t (stateAfter t (stateAfter t (startOf bits) (0x61 ∷ [])) (0x62 ∷ [])) (0x63 ∷ []) .front .context) ≡ 0x62 ∷ 0x63 ∷ []
   -- 61 62 63 E9: fed from offset 1
-  pub from-1 : FedAs t (startOf bits) (0x61 ∷ 0x62 ∷ 0x63 ∷ 0xE9 ∷ []) [] (0x62 ∷ 0x63 ∷ 0xE9 ∷ [])
+  pub from-1 : FedAs t (startOf bits) (0x61 ∷ 0x62 ∷ 0x63 ∷ 0xE9 ∷ []) [] (0x62 ∷ 0x63 ∷ 0xE9 ∷ []) 1
   -- saved 62 63, then 61 E9: fed 62 63, then 61 E9
-  pub saved-then : FedAs t (stateAfter t (startOf bits) (0x62 ∷ 0x63 ∷ [])) (0x61 ∷ 0xE9 ∷ []) (0x62 ∷ 0x63 ∷ []) (0x61 ∷ 0xE9 ∷ [])
+  pub saved-then : FedAs t (stateAfter t (startOf bits) (0x62 ∷ 0x63 ∷ [])) (0x61 ∷ 0xE9 ∷ []) (0x62 ∷ 0x63 ∷ []) (0x61 ∷ 0xE9 ∷ []) 1
   -- 61 62 63 64 1B: fed from offset 2, escape flag set
-  pub from-2 : FedAs t (startOf bits) (0x61 ∷ 0x62 ∷ 0x63 ∷ 0x64 ∷ 0x1B ∷ []) [] (0x63 ∷ 0x64 ∷ 0x1B ∷ [])
+  pub from-2 : FedAs t (startOf bits) (0x61 ∷ 0x62 ∷ 0x63 ∷ 0x64 ∷ 0x1B ∷ []) [] (0x63 ∷ 0x64 ∷ 0x1B ∷ []) 1
   pub escape-flag : (last : Bool) → feedOf t (startOf bits) (0x61 ∷ 0x62 ∷ 0x63 ∷ 0x64 ∷ 0x1B ∷ []) last .state .front .«esc_seen» ≡ true
-  -- UTF-8 ED 9F BF lives; ED A0 80 is none
+  -- UTF-8 ED 9F BF lives; ED A0 80 is none, by a bad byte, the second
   pub utf-8-ed-9f-bf : Leaves t bits 0 (0xED ∷ 0x9F ∷ 0xBF ∷ []) (place (Utf8 utf-8.fresh) (Live (pos 0)))
-  pub utf-8-ed-a0-80 : Leaves t bits 0 (0xED ∷ 0xA0 ∷ 0x80 ∷ []) (place (Utf8 utf-8.fresh) None)
-  -- UTF-8 F4 8F BF BF lives; F4 90 80 80 and C0 80 are none
+  pub utf-8-ed-a0-80 : Leaves t bits 0 (0xED ∷ 0xA0 ∷ 0x80 ∷ []) (place (Utf8 utf-8.fresh) (None BadByte 2))
+  -- UTF-8 F4 8F BF BF lives; F4 90 80 80 and C0 80 are none, by a bad byte, the second and the first
   pub utf-8-f4-8f-bf-bf : Leaves t bits 0 (0xF4 ∷ 0x8F ∷ 0xBF ∷ 0xBF ∷ []) (place (Utf8 utf-8.fresh) (Live (pos 0)))
-  pub utf-8-f4-90-80-80 : Leaves t bits 0 (0xF4 ∷ 0x90 ∷ 0x80 ∷ 0x80 ∷ []) (place (Utf8 utf-8.fresh) None)
-  pub utf-8-c0-80 : Leaves t bits 0 (0xC0 ∷ 0x80 ∷ []) (place (Utf8 utf-8.fresh) None)
-  -- ISO-2022-JP 1B 28 42 1B 28 42: none
-  pub iso2022jp-escapes : Leaves t bits 1 (0x1B ∷ 0x28 ∷ 0x42 ∷ 0x1B ∷ 0x28 ∷ 0x42 ∷ []) (place (Iso2022Jp iso2022jp.fresh) None)
+  pub utf-8-f4-90-80-80 : Leaves t bits 0 (0xF4 ∷ 0x90 ∷ 0x80 ∷ 0x80 ∷ []) (place (Utf8 utf-8.fresh) (None BadByte 2))
+  pub utf-8-c0-80 : Leaves t bits 0 (0xC0 ∷ 0x80 ∷ []) (place (Utf8 utf-8.fresh) (None BadByte 1))
+  -- ISO-2022-JP 1B 28 42 1B 28 42: none, by a broken escape, at its last byte
+  pub iso2022jp-escapes : Leaves t bits 1 (0x1B ∷ 0x28 ∷ 0x42 ∷ 0x1B ∷ 0x28 ∷ 0x42 ∷ []) (place (Iso2022Jp iso2022jp.fresh) (None BrokenEscape 6))
   -- Big5 FD FF: extension weight twice, then Other
   pub big5-fd-ff : Leaves t bits 3 (0xFD ∷ 0xFF ∷ []) (place (Big5 (rest Other 0xFF)) (Live (weightOf (t .weights) big5Extension +ℤ weightOf (t .weights) big5Extension)))
   -- Big5 FD 61, unmapped: PUA weight once
   pub big5-fd-61 : isMapped (getD (t .big5) (pointerOf 0xFD 0x61) 0) ≡ false → Leaves t bits 3 (0xFD ∷ 0x61 ∷ []) (place (Big5 (rest Cj 0x61)) (Live (weightOf (t .weights) big5Pua)))
-  -- Big5 A4 FF: none; lone 80: none
-  pub big5-a4-ff : Leaves t bits 3 (0xA4 ∷ 0xFF ∷ []) (place (Big5 big5.fresh) None)
-  pub big5-lone-80 : Leaves t bits 3 (0x80 ∷ []) (place (Big5 big5.fresh) None)
+  -- Big5 A4 FF: none, by a bad second byte; lone 80: none, by a bad byte
+  pub big5-a4-ff : Leaves t bits 3 (0xA4 ∷ 0xFF ∷ []) (place (Big5 big5.fresh) (None BadSecondByte 2))
+  pub big5-lone-80 : Leaves t bits 3 (0x80 ∷ []) (place (Big5 big5.fresh) (None BadByte 1))
   -- EUC-KR: long-word weight absent at five Hangul, once at six, twice at seven
   pub euckr-five : (xs : List ℕ) → Word (t .euckr) 5 xs → Adds t bits xs (pos 0)
   pub euckr-six : (xs : List ℕ) → Word (t .euckr) 6 xs → Adds t bits xs (weightOf (t .weights) longWord)

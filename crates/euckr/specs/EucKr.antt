@@ -7,8 +7,9 @@ use lib.Dec.{leb, eqb}
 use lib.IntN.{ℤ, natAbs}
 use lib.ListN.{length}
 use Rattle.laws.specs.Answer.{Answer, ran, unfit, answered, answeredIf, Told, BoundedBy}
-use Rattle.laws.specs.Run.{Outcome, live, alive, dropped, run}
-use Rattle.pairs.specs.Pairs.{isLeadOrNone, releasedOf, smallHeldB}
+use Rattle.laws.specs.Run.{Outcome, none, live, alive, run, lastAt}
+use Rattle.laws.specs.declared.Reason.the-variants.{CutAtClose}
+use Rattle.pairs.specs.Pairs.{isLeadOrNone, reasonBy, releasedOf, smallHeldB}
 use Rattle.laws.specs.Limit.{limit, room}
 use Rattle.weights.specs.Weights.{term, perByte}
 use Rattle.lengths.specs.Lengths.{weightCount, eucKrCount, extraCount}
@@ -43,9 +44,14 @@ pub record SmallScale (w : Scale) : Type 0 where
   pub long : natAbs (w .long) ≤ term
 
 -- ---- answers, as outcomes
-abbrev pub outOf : Stepped → Outcome EucKr
-outOf (SteppedLive m s) = live m s
-outOf SteppedDropped = dropped
+-- of a step, by the lead before the byte
+abbrev pub outOf : ℕ → Stepped → Outcome EucKr
+outOf before (SteppedLive m s) = live m s
+outOf before SteppedDropped = none (reasonBy before)
+
+-- of a step that stays alive, whatever the lead before the byte
+abbrev pub Gives : Stepped → Outcome EucKr → Type 0
+Gives r o = (before : ℕ) → outOf before r ≡ o
 
 -- a live outcome's change of the score is at most five terms
 abbrev pub Slight : Outcome EucKr → Type 0
@@ -53,11 +59,11 @@ Slight o = BoundedBy perByte (ran o)
 
 abbrev pub answerOf : Ran → Answer EucKr
 answerOf (Live m s) = ran (live m s)
-answerOf Dropped = ran dropped
+answerOf (Dropped d at) = ran (none d)
 answerOf Unfit = unfit
 
-abbrev pub ranAs : Outcome EucKr → Ran
-ranAs o = answered Live Dropped o
+abbrev pub ranAs : ℕ → Outcome EucKr → Ran
+ranAs at o = answered Live Dropped at o
 
 -- a live answer's score changes by at most c
 abbrev pub Bounded : ℕ → Ran → Type 0
@@ -84,11 +90,11 @@ pub record Ready (index : List ℕ) (extras weights : List ℤ) (m : EucKr) (xs 
 
 -- the score starts from 0: what a run gives is its change
 unfoldable pub ranOf : List ℕ → List ℤ → List ℤ → EucKr → List ℕ → Ran
-ranOf index extras weights m xs = answeredIf Live Dropped Unfit (readyB index extras weights m xs) (run (stepOf (lent index extras (scaleOf weights))) (alive m) xs)
+ranOf index extras weights m xs = let step = stepOf (lent index extras (scaleOf weights)) in answeredIf Live Dropped Unfit (readyB index extras weights m xs) (lastAt step (alive m) xs) (run step (alive m) xs)
 
--- the end of the stream: none where a lead is pending; a held score counts nothing, and stays
+-- the end of the stream: none where a lead is pending, a cut at no byte; a held score counts nothing, and stays
 abbrev pub closeOf : EucKr → Outcome EucKr
-closeOf m = cond (eqb (m .lead) 0) (alive m) dropped
+closeOf m = cond (eqb (m .lead) 0) (alive m) (none CutAtClose)
 
 unfoldable pub closedOf : EucKr → Ran
-closedOf m = answeredIf Live Dropped Unfit (soundB room m) (closeOf m)
+closedOf m = answeredIf Live Dropped Unfit (soundB room m) 0 (closeOf m)

@@ -1,5 +1,5 @@
--- Laws of the EUC-KR machine: what a record holds is kept, a byte adds at most five terms, the tests decide.
-use mathlib.Core.Path.{_≡_}
+-- Laws of the EUC-KR machine: what a record holds is kept, a byte adds at most five terms, the tests decide, why it drops out.
+use mathlib.Core.Path.{_≡_, refl}
 use mathlib.Core.Bool.{true, _&&_}
 use mathlib.Core.List.{List}
 use Prim.Native.Nat.{ℕ, _+_, _≤_}
@@ -11,11 +11,13 @@ use borrow.Author.Tests.{leb-true, le-leb, eqb-true, eq-eqb}
 use Rattle.laws.specs.Tests.{both, picked}
 use Rattle.laws.specs.Answer.{if-fit}
 use Rattle.laws.specs.Carried.{Holds}
-use Rattle.laws.specs.Run.{Outcome, none, live, run, Within, alive}
+use Rattle.laws.specs.Run.{Outcome, none, live, run, lastAt, WhenNone, Within, alive}
 use Rattle.laws.specs.Sizes.{abs-add}
+use Rattle.laws.specs.declared.Reason.{Reason}
+use Rattle.laws.specs.declared.Reason.the-variants.{CutAtClose}
 use Rattle.octets.specs.Octets.{ascii, letter}
-use Rattle.pairs.specs.Pairs.{isLeadOrNone, SmallHeld, smallHeldB}
-use Rattle.pairs.specs.PairsLaws.{handler-lead, held-true, true-held}
+use Rattle.pairs.specs.Pairs.{isLeadOrNone, reasonBy, SmallHeld, smallHeldB}
+use Rattle.pairs.specs.PairsLaws.{handler-lead, held-true, true-held, OfPairs, reason-either}
 use Rattle.pairs.specs.declared.Event.{Event}
 use Rattle.pairs.specs.declared.Event.the-variants.{Pending, Point, Two, Error}
 use Rattle.pairs.specs.declared.Held.the-variants.{Nothing}
@@ -62,13 +64,13 @@ module _ (index : List ℕ) (extras weights : List ℤ) (m : EucKr) (xs : List �
   true-ready r = rw (true-sound room m (r .sound), le-leb _ _ (r .short), eq-eqb _ _ (r .index-length), eq-eqb _ _ (r .extras-length), eq-eqb _ _ (r .weights-length))
 
   -- what a caller that has tested uses
-  pub ran-ready : Ready index extras weights m xs → ranOf index extras weights m xs ≡ ranAs (run (stepOf (lent index extras (scaleOf weights))) (alive m) xs)
+  pub ran-ready : Ready index extras weights m xs → ranOf index extras weights m xs ≡ ranAs (lastAt (stepOf (lent index extras (scaleOf weights))) (alive m) xs) (run (stepOf (lent index extras (scaleOf weights))) (alive m) xs)
   unfolding ranOf
-  ran-ready r = if-fit _ _ _ _ _ (true-ready r)
+  ran-ready r = if-fit _ _ _ _ _ _ (true-ready r)
 
-pub closed-ready : (m : EucKr) → Sound room m → closedOf m ≡ ranAs (closeOf m)
+pub closed-ready : (m : EucKr) → Sound room m → closedOf m ≡ ranAs 0 (closeOf m)
 unfolding closedOf
-closed-ready m s = if-fit _ _ _ _ _ (true-sound room m s)
+closed-ready m s = if-fit _ _ _ _ _ _ (true-sound room m s)
 
 -- ---- a byte leaves a record that EUC-KR can hold, with a word at most one longer
 pub record Fair (n : ℕ) (s : Scored) : Type 0 where
@@ -187,3 +189,35 @@ step-within t small slight n m b s = sound-slight (n + 1) (stepOf t m b) (step-s
 -- the same of a step that was live
 pub turn-sound : (t : Lent) → SmallScale (t .scale) → (n : ℕ) (m : EucKr) (b : ℕ) (next : EucKr) (g : ℤ) → Sound n m → stepOf t m b ≡ live next g → Sound (n + 1) next
 turn-sound t small n m b next g s e = rw e at (step-sound t small n m b s)
+
+-- ---- why it drops out: at a byte by the lead before it, at the close as a cut
+module _ (w : Scale) (m : EucKr) where
+  abbrev ByLead : Outcome EucKr → Type 0
+  ByLead o = WhenNone (λ d. d ≡ reasonBy (m .lead)) o
+
+  error-drops : (lead b k : ℕ) → ByLead (errorOf w m lead b k)
+  unfolding errorOf strayOf
+  error-drops lead b k =
+      picked ByLead (isUserPair (m .«prev_byte») b) tt
+      (picked ByLead (isMacSymbol (m .«prev_byte») b) tt
+      (picked ByLead (extends (m .«prev_byte») b) tt (picked ByLead (eqb k 1 && isLone b) tt refl)))
+
+  event-drops : (extras : List ℤ) (lead b : ℕ) (e : Event) → ByLead (onEvent w m extras lead b e)
+  event-drops extras lead b Pending = tt
+  event-drops extras lead b (Point p) = tt
+  event-drops extras lead b (Two p q) = tt
+  event-drops extras lead b (Error k) = error-drops lead b k
+
+pub step-why : (t : Lent) (m : EucKr) (b : ℕ) (d : Reason) → stepOf t m b ≡ none d → d ≡ reasonBy (m .lead)
+unfolding stepOf
+step-why t m b r e =
+    let d = decodeOf (t .index) (m .lead) b in
+    rw e at (event-drops (t .scale) m (t .extras) (d .lead) b (d .event))
+
+pub step-reason : (t : Lent) (m : EucKr) (b : ℕ) (d : Reason) → stepOf t m b ≡ none d → OfPairs d
+step-reason t m b d e = rw (step-why t m b d e) (reason-either (m .lead))
+
+pub close-reason : (m : EucKr) (d : Reason) → closeOf m ≡ none d → d ≡ CutAtClose
+close-reason m d e =
+    let h : WhenNone (λ r. r ≡ CutAtClose) (closeOf m) = picked (WhenNone (λ r. r ≡ CutAtClose)) (eqb (m .lead) 0) tt refl in
+    rw e at h

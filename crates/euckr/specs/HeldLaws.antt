@@ -10,9 +10,10 @@ use lib.Dec.{eqb}
 use lib.IntN.{ℤ, pos, _+ℤ_}
 use borrow.Author.Tests.{not-true, eq-eqb}
 use Rattle.laws.specs.Tests.{both, picked}
-use Rattle.laws.specs.Run.{Outcome, none, live, dropped}
+use Rattle.laws.specs.Run.{Outcome, none, live}
+use Rattle.laws.specs.declared.Reason.{Reason}
 use Rattle.octets.specs.Octets.{ascii, letter}
-use Rattle.pairs.specs.Pairs.{isHeldLead}
+use Rattle.pairs.specs.Pairs.{isHeldLead, reasonBy}
 use Rattle.pairs.specs.declared.Event.{Event}
 use Rattle.pairs.specs.declared.Event.the-variants.{Pending, Point, Two, Error}
 use Rattle.pairs.specs.declared.Held.the-variants.{Nothing, Score}
@@ -81,9 +82,9 @@ module _ (w : Scale) (m : EucKr) where
   unfolding Whys WhyOut
   why-after v lead b s h k e = inr (h k e)
 
-  why-none : (v : Event) → WhyOut v dropped
+  why-none : (v : Event) (d : Reason) → WhyOut v (none d)
   unfolding WhyOut
-  why-none v = tt
+  why-none v d = tt
 
   why-error : (lead b n : ℕ) → WhyOut (Error n) (errorOf w m lead b n)
   unfolding errorOf strayOf hanjaOf otherOf
@@ -92,7 +93,7 @@ module _ (w : Scale) (m : EucKr) where
       picked (WhyOut v) (isUserPair (m .«prev_byte») b) (why-after v lead b (hanjaOf w m (w .pua)) (why-not Hanja _ _))
       (picked (WhyOut v) (isMacSymbol (m .«prev_byte») b) (why-after v lead b (otherOf m (w .mac)) (why-not Other 0 _))
       (picked (WhyOut v) (extends (m .«prev_byte») b) (why-after v lead b (extensionOf w b) (why-extension b))
-      (picked (WhyOut v) (eqb n 1 && isLone b) (why-after v lead b (scored Other 0 Nothing (w .extension)) (why-not Other 0 _)) (why-none v))))
+      (picked (WhyOut v) (eqb n 1 && isLone b) (why-after v lead b (scored Other 0 Nothing (w .extension)) (why-not Other 0 _)) (why-none v (reasonBy (m .lead))))))
 
   why-event : (extras : List ℤ) (lead b : ℕ) (v : Event) → WhyOut v (onEvent w m extras lead b v)
   unfolding WhyOut

@@ -5,9 +5,9 @@ use Prim.Native.Nat.{ℕ, _+_, _-_}
 use lib.Dec.{ltb, eqb}
 use lib.IntN.{ℤ, pos, _+ℤ_}
 use lib.ListN.{getD}
-use Rattle.laws.specs.Run.{Outcome, live, dropped}
+use Rattle.laws.specs.Run.{Outcome, none, live}
 use Rattle.octets.specs.Octets.{between, ascii, letter}
-use Rattle.pairs.specs.Pairs.{isHeldLead, releasedOf}
+use Rattle.pairs.specs.Pairs.{isHeldLead, reasonBy, releasedOf}
 use Rattle.pairs.specs.declared.Event.{Event}
 use Rattle.pairs.specs.declared.Event.the-variants.{Pending, Point, Two, Error}
 use Rattle.pairs.specs.declared.Held.{Held}
@@ -165,7 +165,7 @@ module _ (w : Scale) (m : EucKr) where
   unfoldable pub strayOf : ℕ → ℕ → ℕ → Outcome EucKr
   strayOf lead b length =
       cond (extends (m .«prev_byte») b) (afterByte lead b (extensionOf w b))
-      (cond (eqb length 1 && isLone b) (afterByte lead b (scored Other 0 Nothing (w .extension))) dropped)
+      (cond (eqb length 1 && isLone b) (afterByte lead b (scored Other 0 Nothing (w .extension))) (none (reasonBy (m .lead))))
 
   unfoldable pub errorOf : ℕ → ℕ → ℕ → Outcome EucKr
   errorOf lead b length =

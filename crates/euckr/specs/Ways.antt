@@ -11,8 +11,8 @@ use borrow.Author.Tests.{eq-eqb, ne-eqb, lt-ltb, le-ltb}
 use mir.Syntax.{w64}
 use mir.Val.{SFits}
 use Rattle.laws.specs.Tests.{picked}
-use Rattle.laws.specs.Run.{dropped}
-use Rattle.pairs.specs.Pairs.{releasedOf, SmallHeld}
+use Rattle.laws.specs.Run.{none}
+use Rattle.pairs.specs.Pairs.{reasonBy, releasedOf, SmallHeld}
 use Rattle.pairs.specs.Sums.{kept, sum-small, sum-fits, sum-read, sum3-small, sum3-fits, sum3-read, sum4-small, sum4-fits, sum4-read}
 use Rattle.pairs.specs.declared.Decoded.{Decoded}
 use Rattle.pairs.specs.declared.Event.{Event}
@@ -173,7 +173,7 @@ module _ (w : Scale) (m : EucKr) (lead x length : ℕ) where
   unfolding strayOf
   stray-alone e p q = rw (e, eq-eqb length 1 p, q)
 
-  pub stray-none : extends (m .«prev_byte») x ≡ false → (length ≡ 1 → ⊥) ⊎ (isLone x ≡ false) → dropped ≡ strayOf w m lead x length
+  pub stray-none : extends (m .«prev_byte») x ≡ false → (length ≡ 1 → ⊥) ⊎ (isLone x ≡ false) → none (reasonBy (m .lead)) ≡ strayOf w m lead x length
   unfolding strayOf
   stray-none e (inl p) = rw (e, ne-eqb length 1 p)
   stray-none e (inr p) = rw (e, p, and-no (eqb length 1))

@@ -4,15 +4,16 @@ ghost use mathlib.Core.Bool.{true};
 ghost use Prim.Native.Nat.{_*_, _≤_, _<_};
 ghost use lib.IntN.{natAbs};
 ghost use lib.ListN.{length};
-ghost use Rattle.laws.specs.Run.{alive, run};
+ghost use Rattle.laws.specs.Run.{alive, run, lastAt};
 ghost use Rattle.pairs.specs.Pairs.{SmallHeld};
 ghost use Rattle.pairs.specs.declared.Held.the-variants.{Nothing};
 ghost use Rattle.laws.specs.Limit.{limit, room};
 ghost use Rattle.weights.specs.Weights.{term, perByte};
 ghost use Rattle.lengths.specs.Lengths.{eucKrCount, extraCount};
 ghost use Rattle.euckr.specs.Scoring.{scaleOf, extraOf, isEuc, isHangul, isHanja, hangulAfter, hanjaAfter, letterAfter, longOf, holdsOf, scored, letterOf, aroundOf, innerOf, outerOf, hangulOf, hanjaOf, otherOf, unitOf, isUserPair, isMacLead, isMacSymbol, isExtension, isLone, extensionOf, afterByte, pendingOf, strayOf, errorOf, lent, fresh, stepOf};
-ghost use Rattle.euckr.specs.EucKr.{Sound, soundB, SmallScale, outOf, ranAs, Slight, Bounded, Weighed, lentB, readyB, ranOf, closedOf};
+ghost use Rattle.euckr.specs.EucKr.{Sound, soundB, SmallScale, outOf, Gives, ranAs, Slight, Bounded, Weighed, lentB, readyB, ranOf, closedOf};
 ghost use Rattle.euckr.specs.declared.LatinKorean.the-variants.{Other};
+use laws::Reason;
 use pairs::Event;
 use pairs::Held;
 
@@ -33,10 +34,11 @@ pub struct EucKr {
     pub held: Held,
 }
 
-// What a stretch gives: the record after it and by how much the score changed, or none; or it was not fit to be run.
+// What a stretch gives: the record after it and by how much the score changed, or none, with the reason and the byte's offset in
+// the part; or it was not fit to be run.
 pub enum Ran {
     Live(EucKr, i64),
-    Dropped,
+    Dropped(Reason, usize),
     Unfit,
 }
 
@@ -444,7 +446,7 @@ fn extension(b: u8, w: Scale) -> Scored
 
 // The record after a byte.
 fn after_byte(lead: u8, b: u8, s: Scored) -> Stepped
-    ensures { λ r. ⌜ outOf r ≡ afterByte lead b s ⌝ }
+    ensures { λ r. ⌜ Gives r (afterByte lead b s) ⌝ }
 {
     let prev = s.prev;
     let held = s.held;
@@ -465,7 +467,7 @@ impl EucKr {
     // An error that is neither a pair nor a symbol: an extension, or the machine drops out.
     fn stray(self, lead: u8, b: u8, size: u8, w: Scale) -> Stepped
         requires { ⌜ SmallScale w ⌝ }
-        ensures { λ r. ⌜ outOf r ≡ strayOf w self lead b size ⌝ }
+        ensures { λ r. ⌜ outOf (self .lead) r ≡ strayOf w self lead b size ⌝ }
     {
         if is_extension(self.prev_byte) {
             if b < 0x80 {
@@ -487,7 +489,7 @@ impl EucKr {
         requires { ⌜ SmallScale w ⌝ }
         requires { ⌜ SmallHeld (self .held) ⌝ }
         requires { ⌜ self .«current_word_len» ≤ 2 * room ⌝ }
-        ensures { λ r. ⌜ outOf r ≡ errorOf w self lead b size ⌝ }
+        ensures { λ r. ⌜ outOf (self .lead) r ≡ errorOf w self lead b size ⌝ }
     {
         if is_user_pair(self.prev_byte, b) {
             return after_byte(lead, b, self.hanja(w.pua, w));
@@ -500,7 +502,7 @@ impl EucKr {
 
     // A lead changes nothing else.
     fn pending(self, lead: u8, b: u8) -> Stepped
-        ensures { λ r. ⌜ outOf r ≡ pendingOf self lead b ⌝ }
+        ensures { λ r. ⌜ outOf (self .lead) r ≡ pendingOf self lead b ⌝ }
     {
         let prev = self.prev;
         let held = self.held;
@@ -522,8 +524,8 @@ impl EucKr {
         requires { ⌜ Sound (2 * room) self ⌝ }
         requires { ⌜ length (now index) ≡ eucKrCount ⌝ }
         requires { ⌜ length (now extras) ≡ extraCount ⌝ }
-        ensures { λ r. ⌜ outOf r ≡ stepOf (lent (now (index .entry)) (now (extras .entry)) w) self b ⌝ }
-        ensures { λ r. ⌜ Slight (outOf r) ⌝ }
+        ensures { λ r. ⌜ outOf (self .lead) r ≡ stepOf (lent (now (index .entry)) (now (extras .entry)) w) self b ⌝ }
+        ensures { λ r. ⌜ Slight (outOf (self .lead) r) ⌝ }
     {
         let d = euckr_decoder::decode(self.lead, b, index);
         let event = d.event;
@@ -541,7 +543,7 @@ impl EucKr {
         requires { ⌜ length (now part) ≤ limit ⌝ }
         requires { ⌜ length (now index) ≡ eucKrCount ⌝ }
         requires { ⌜ length (now extras) ≡ extraCount ⌝ }
-        ensures { λ r. ⌜ r ≡ ranAs (run (stepOf (lent (now (index .entry)) (now (extras .entry)) w)) (alive self) (now (part .entry))) ⌝ }
+        ensures { λ r. ⌜ r ≡ ranAs (lastAt (stepOf (lent (now (index .entry)) (now (extras .entry)) w)) (alive self) (now (part .entry))) (run (stepOf (lent (now (index .entry)) (now (extras .entry)) w)) (alive self) (now (part .entry))) ⌝ }
         ensures { λ r. ⌜ Bounded (perByte * length (now (part .entry))) r ⌝ }
     {
         let mut m = self;
@@ -554,12 +556,24 @@ impl EucKr {
                     s = s + gain;
                 }
                 Stepped::Dropped => {
-                    return Ran::Dropped;
+                    return Ran::Dropped(pairs::reason(m.lead), i);
                 }
             }
             i += 1;
         }
-        Ran::Live(m, s)
+        let prev = m.prev;
+        let held = m.held;
+        Ran::Live(
+            EucKr {
+                lead: m.lead,
+                prev_byte: m.prev_byte,
+                prev_was_euc_range: m.prev_was_euc_range,
+                prev,
+                current_word_len: m.current_word_len,
+                held: held.kept(),
+            },
+            s,
+        )
     }
 
     // Whether no bound of `bytes` bytes excludes the record.
@@ -581,7 +595,7 @@ impl EucKr {
         Ran::Unfit
     }
 
-    // The end of the stream: none where a lead is pending. A held score counts nothing, and stays.
+    // The end of the stream: none where a lead is pending, at no byte. A held score counts nothing, and stays.
     pub fn close(self) -> Ran
         ensures { λ r. ⌜ r ≡ closedOf self ⌝ }
     {
@@ -589,7 +603,7 @@ impl EucKr {
             if self.lead == 0 {
                 return Ran::Live(self, 0);
             }
-            return Ran::Dropped;
+            return Ran::Dropped(Reason::CutAtClose, 0);
         }
         Ran::Unfit
     }

@@ -9,6 +9,7 @@ use Rattle.iso2022jp.proofs.DecoderState.{the-type}
 use Rattle.iso2022jp.specs.declared.DecoderState.{DecoderState}
 use Rattle.iso2022jp.specs.declared.DecoderState.the-variants.{Ascii, Roman, Katakana, LeadByte, TrailByte, EscapeStart, Escape}
 use Rattle.iso2022jp.specs.declared.Iso2022Jp.{Iso2022Jp}
+use Rattle.laws.specs.declared.Reason.the-variants.{CutAtClose}
 use Rattle.iso2022jp.specs.declared.Ran.the-variants.{Live, Dropped}
 use Rattle.iso2022jp.specs.Iso2022Jp.{leadInB, asciiOf, stepIn, closeIn, ranAs}
 
@@ -36,7 +37,7 @@ text TrailByte index m b o = absurd (miss (0 ∷ 1 ∷ []) 4 tt o)
 text EscapeStart index m b o = absurd (miss (0 ∷ 1 ∷ []) 5 tt o)
 text Escape index m b o = absurd (miss (0 ∷ 1 ∷ []) 6 tt o)
 
-pub pending : (state : DecoderState) (m : Iso2022Jp) → Among (4 ∷ 5 ∷ 6 ∷ []) state → Dropped ≡ ranAs (closeIn state m)
+pub pending : (state : DecoderState) (m : Iso2022Jp) → Among (4 ∷ 5 ∷ 6 ∷ []) state → Dropped CutAtClose 0 ≡ ranAs 0 (closeIn state m)
 unfolding closeIn
 pending Ascii m o = absurd (miss (4 ∷ 5 ∷ 6 ∷ []) 0 tt o)
 pending Roman m o = absurd (miss (4 ∷ 5 ∷ 6 ∷ []) 1 tt o)
@@ -46,7 +47,7 @@ pending TrailByte m o = refl
 pending EscapeStart m o = refl
 pending Escape m o = refl
 
-pub at-rest : (state : DecoderState) (m : Iso2022Jp) → Among (0 ∷ 1 ∷ 2 ∷ 3 ∷ []) state → Live m ≡ ranAs (closeIn state m)
+pub at-rest : (state : DecoderState) (m : Iso2022Jp) → Among (0 ∷ 1 ∷ 2 ∷ 3 ∷ []) state → Live m ≡ ranAs 0 (closeIn state m)
 unfolding closeIn
 at-rest Ascii m o = refl
 at-rest Roman m o = refl

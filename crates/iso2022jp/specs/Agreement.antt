@@ -1,5 +1,8 @@
 -- How the machine's record stands for the Standard's variables, and its outcomes for the Standard's results.
 use Prim.Native.Nat.{ℕ}
+use Rattle.laws.specs.declared.Reason.{Reason}
+use Rattle.laws.specs.declared.Reason.the-variants.{BadByte, BrokenEscape, CutAtClose}
+use Rattle.laws.specs.Handler.{Item, end-of-queue, byte}
 use Rattle.laws.specs.Run.{Outcome}
 use Rattle.iso2022jp.specs.declared.DecoderState.{DecoderState as MachineState}
 use Rattle.iso2022jp.specs.declared.DecoderState.the-variants.{Ascii, Roman, Katakana, LeadByte, TrailByte, EscapeStart, Escape}
@@ -38,5 +41,20 @@ pendingLead escape lead = lead
 abbrev pub recordOf : Decoder → Iso2022Jp
 recordOf d = holds (decoderState (d .decoder-state)) (outputState (d .output-state)) (pendingLead (d .decoder-state) (d .lead)) (d .output)
 
-abbrev pub outcomeOf : Verdict Decoder → Outcome Iso2022Jp
-outcomeOf r = outcomeBy recordOf r
+-- why the decoder's error drops the machine out, from the variables before the item: an escape that has begun is broken, any other
+-- byte is bad, and the end cuts
+abbrev pub reasonIn : DecoderState → Reason
+reasonIn ascii = BadByte
+reasonIn roman = BadByte
+reasonIn katakana = BadByte
+reasonIn lead-byte = BadByte
+reasonIn trail-byte = BadByte
+reasonIn escape-start = BrokenEscape
+reasonIn escape = BrokenEscape
+
+abbrev pub reasonOf : Decoder → Item → Reason
+reasonOf d end-of-queue = CutAtClose
+reasonOf d (byte b) = reasonIn (d .decoder-state)
+
+abbrev pub outcomeOf : Reason → Verdict Decoder → Outcome Iso2022Jp
+outcomeOf why r = outcomeBy recordOf why r

@@ -10,8 +10,9 @@ use lib.Dec.{eqb}
 use borrow.Author.Tests.{eqb-true}
 use Rattle.laws.specs.Tests.{either, through}
 use Rattle.laws.specs.Handler.{end-of-queue, byte, varsOf}
-use Rattle.laws.specs.Validator.{Verdict, at-start, on, outcomeBy, decodedBy, decodes}
-use Rattle.laws.specs.Run.{run, ended, alive, dropped}
+use Rattle.laws.specs.Validator.{Verdict, at-start, on, outcomeBy, decodedBy, lastBy, decodes}
+use Rattle.laws.specs.declared.Reason.the-variants.{BadByte, BrokenEscape, CutAtClose}
+use Rattle.laws.specs.Run.{none, run, ended, alive}
 use Rattle.octets.specs.Octets.{between}
 use Rattle.octets.specs.BetweenLaws.{below, between-low, between-high}
 use Rattle.iso2022jp.specs.declared.DecoderState.the-variants.{LeadByte}
@@ -20,7 +21,7 @@ use Rattle.iso2022jp.specs.declared.Designated.the-variants.{To, Nothing
 use Rattle.iso2022jp.specs.Standard.{DecoderState, ascii, roman, katakana, lead-byte, trail-byte, escape-start, escape, OutputState, out-ascii, out-roman, out-katakana, out-lead-byte, as-state, Decoder, variables, initial, is-text, pointer, Set, null, state, set-by, after-set, on-byte, on-end, handler, Reached}
 use Rattle.iso2022jp.specs.Iso2022Jp.{holds, fresh, Sound, leadsEscape, indexedBy, isText, asciiOf, rangedOf, pairAt, trailOf, escapeStartOf, designated, stateOf, escapedTo, stepIn, stepOf, closeIn, closeOf}
 use Rattle.iso2022jp.specs.Iso2022JpLaws.{escape-lead}
-use Rattle.iso2022jp.specs.Agreement.{outputState, recordOf, outcomeOf}
+use Rattle.iso2022jp.specs.Agreement.{outputState, recordOf, reasonIn, reasonOf, outcomeOf}
 
 -- ---- an escape
 abbrev designation : Set → Designated
@@ -34,42 +35,42 @@ sets lead b = sym (simp (through designation))
 -- ---- a byte
 module _ (index : List ℕ) (out : OutputState) (lead : ℕ) (output : Bool) (b : ℕ) where
   abbrev Agrees : DecoderState → Type 0
-  Agrees st = stepOf index (recordOf (variables st out lead output)) b ≡ outcomeOf (handler (indexedBy index) (variables st out lead output) (byte b))
+  Agrees st = stepOf index (recordOf (variables st out lead output)) b ≡ outcomeOf (reasonIn st) (handler (indexedBy index) (variables st out lead output) (byte b))
 
   in-ascii-agrees : Agrees ascii
   unfolding stepIn asciiOf isText handler on-byte outcomeBy
-  in-ascii-agrees = sym (simp (through outcomeOf))
+  in-ascii-agrees = sym (simp (through (outcomeOf BadByte)))
 
   in-roman-agrees : Agrees roman
   unfolding stepIn asciiOf isText handler on-byte outcomeBy
-  in-roman-agrees = sym (simp (through outcomeOf))
+  in-roman-agrees = sym (simp (through (outcomeOf BadByte)))
 
   in-katakana-agrees : Agrees katakana
   unfolding stepIn rangedOf handler on-byte outcomeBy
-  in-katakana-agrees = sym (simp (through outcomeOf))
+  in-katakana-agrees = sym (simp (through (outcomeOf BadByte)))
 
   in-lead-byte-agrees : Agrees lead-byte
   unfolding stepIn rangedOf handler on-byte outcomeBy
-  in-lead-byte-agrees = sym (simp (through outcomeOf))
+  in-lead-byte-agrees = sym (simp (through (outcomeOf BadByte)))
 
   in-escape-start-agrees : Agrees escape-start
   unfolding stepIn escapeStartOf handler on-byte outcomeBy
-  in-escape-start-agrees = sym (simp (through outcomeOf))
+  in-escape-start-agrees = sym (simp (through (outcomeOf BrokenEscape)))
 
   -- where the byte can be a trail, the two pointers are one
-  same-pointer : (t : Bool) → between 0x21 0x7E b ≡ t → cond t (cond (indexedBy index (pairAt lead b)) (alive (holds LeadByte (outputState out) 0 output)) dropped) dropped ≡ cond t (cond (indexedBy index (pointer lead b)) (alive (holds LeadByte (outputState out) 0 output)) dropped) dropped
+  same-pointer : (t : Bool) → between 0x21 0x7E b ≡ t → cond t (cond (indexedBy index (pairAt lead b)) (alive (holds LeadByte (outputState out) 0 output)) (none BadByte)) (none BadByte) ≡ cond t (cond (indexedBy index (pointer lead b)) (alive (holds LeadByte (outputState out) 0 output)) (none BadByte)) (none BadByte)
   same-pointer true e = let n : pairAt lead b ≡ pointer lead b = omega (arith, between-low 0x21 0x7E b e) in rw n
   same-pointer false e = refl
 
-  trail-at : (t : Bool) → eqb b 0x1B ≡ t → cond (between 0x21 0x7E b) (cond (indexedBy index (pairAt lead b)) (alive (holds LeadByte (outputState out) 0 output)) dropped) dropped ≡ cond t dropped (cond (between 0x21 0x7E b) (cond (indexedBy index (pointer lead b)) (alive (holds LeadByte (outputState out) 0 output)) dropped) dropped)
+  trail-at : (t : Bool) → eqb b 0x1B ≡ t → cond (between 0x21 0x7E b) (cond (indexedBy index (pairAt lead b)) (alive (holds LeadByte (outputState out) 0 output)) (none BadByte)) (none BadByte) ≡ cond t (none BadByte) (cond (between 0x21 0x7E b) (cond (indexedBy index (pointer lead b)) (alive (holds LeadByte (outputState out) 0 output)) (none BadByte)) (none BadByte))
   trail-at true e = rw (below 0x21 0x7E b (omega (arith, eqb-true b 0x1B e)))
   trail-at false e = same-pointer (between 0x21 0x7E b) refl
 
   in-trail-byte-agrees : Agrees trail-byte
   unfolding stepIn trailOf handler on-byte outcomeBy
-  in-trail-byte-agrees = trail-at (eqb b 0x1B) refl ∙ sym (simp (through outcomeOf))
+  in-trail-byte-agrees = trail-at (eqb b 0x1B) refl ∙ sym (simp (through (outcomeOf BadByte)))
 
-  escaped : (s : Set) (t : Bool) → escapedTo t (designation s) ≡ outcomeOf (after-set (lead ∷ b ∷ []) (variables escape out lead t) s)
+  escaped : (s : Set) (t : Bool) → escapedTo t (designation s) ≡ outcomeOf BrokenEscape (after-set (lead ∷ b ∷ []) (variables escape out lead t) s)
   unfolding escapedTo stateOf after-set outcomeBy
   escaped null t = refl
   escaped (state out-ascii) true = refl
@@ -95,11 +96,11 @@ module _ (index : List ℕ) (out : OutputState) (lead : ℕ) (output : Bool) (b 
   agrees escape = in-escape-agrees
 
 -- The machine's step is the Standard's, at every byte, whatever the variables are.
-pub step-agrees : (index : List ℕ) (d : Decoder) (b : ℕ) → stepOf index (recordOf d) b ≡ outcomeOf (handler (indexedBy index) d (byte b))
+pub step-agrees : (index : List ℕ) (d : Decoder) (b : ℕ) → stepOf index (recordOf d) b ≡ outcomeOf (reasonOf d (byte b)) (handler (indexedBy index) d (byte b))
 step-agrees index d b = agrees index (d .output-state) (d .lead) (d .output) b (d .decoder-state)
 
 -- ---- the end
-closes : (st : DecoderState) (out : OutputState) (lead : ℕ) (output : Bool) → closeOf (recordOf (variables st out lead output)) ≡ outcomeOf (on-end st (variables st out lead output))
+closes : (st : DecoderState) (out : OutputState) (lead : ℕ) (output : Bool) → closeOf (recordOf (variables st out lead output)) ≡ outcomeOf CutAtClose (on-end st (variables st out lead output))
 unfolding closeIn on-end after-set outcomeBy
 closes ascii out lead output = refl
 closes roman out lead output = refl
@@ -110,17 +111,17 @@ closes escape-start out lead output = refl
 closes escape out lead output = refl
 
 -- So is its close at the end of the stream.
-pub close-agrees : (index : List ℕ) (d : Decoder) → closeOf (recordOf d) ≡ outcomeOf (handler (indexedBy index) d end-of-queue)
+pub close-agrees : (index : List ℕ) (d : Decoder) → closeOf (recordOf d) ≡ outcomeOf (reasonOf d end-of-queue) (handler (indexedBy index) d end-of-queue)
 unfolding handler
 close-agrees index d = closes (d .decoder-state) (d .output-state) (d .lead) (d .output)
 
 pub fresh-agrees : fresh ≡ recordOf initial
 fresh-agrees = refl
 
--- Over a whole stream, closed, the machine is what the Standard's decoder is up to its first error.
-pub stream-agrees : (index : List ℕ) (xs : List ℕ) → ended closeOf (run (stepOf index) (alive fresh) xs) ≡ outcomeOf (decodedBy (handler (indexedBy index)) initial xs)
+-- Over a whole stream, closed, the machine is what the Standard's decoder is up to its first error, with the reason of that error.
+pub stream-agrees : (index : List ℕ) (xs : List ℕ) → ended closeOf (run (stepOf index) (alive fresh) xs) ≡ outcomeOf (lastBy (handler (indexedBy index)) reasonOf initial xs) (decodedBy (handler (indexedBy index)) initial xs)
 stream-agrees index xs =
-    decodes (handler (indexedBy index)) initial recordOf (stepOf index) closeOf (λ (d : Decoder) (r : Reached (indexedBy index) d). (λ (b : ℕ). step-agrees index d b, close-agrees index d)) initial xs at-start
+    decodes (handler (indexedBy index)) initial recordOf reasonOf (stepOf index) closeOf (λ (d : Decoder) (r : Reached (indexedBy index) d). (λ (b : ℕ). step-agrees index d b, close-agrees index d)) initial xs at-start
 
 -- ---- what the decoder can reach, the kind can hold
 abbrev HeldLead : DecoderState → ℕ → Type 0

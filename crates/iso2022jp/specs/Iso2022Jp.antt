@@ -11,7 +11,8 @@ use Rattle.laws.specs.Lists.{isIn}
 use Rattle.lengths.specs.Lengths.{jisCount}
 use Rattle.laws.specs.Limit.{limit}
 use Rattle.laws.specs.Answer.{answered, answeredIf}
-use Rattle.laws.specs.Run.{Outcome, live, alive, dropped, run}
+use Rattle.laws.specs.declared.Reason.the-variants.{BadByte, BrokenEscape, CutAtClose}
+use Rattle.laws.specs.Run.{Outcome, none, live, alive, run, lastAt}
 use Rattle.octets.specs.Octets.{between}
 use Rattle.entries.specs.Entries.{isMapped}
 use Rattle.iso2022jp.specs.declared.DecoderState.{DecoderState}
@@ -71,6 +72,8 @@ indexedBy index pointer = isMapped false (getD index pointer 0)
 abbrev pub escapeByte : ℕ
 escapeByte = 0x1B
 
+-- An error in an escape that has begun is a broken escape, any other a bad byte.
+
 -- an escape begins, and what was put out since the last one stays known
 abbrev pub started : Iso2022Jp → Iso2022Jp
 started m = holds EscapeStart (m .out) 0 (m .output)
@@ -86,13 +89,13 @@ isText b = between 0x00 0x7F b && not (isIn (0x0E ∷ 0x0F ∷ escapeByte ∷ []
 unfoldable pub asciiOf : DecoderState → Iso2022Jp → ℕ → Outcome Iso2022Jp
 asciiOf state m b =
     cond (eqb b escapeByte) (alive (started m))
-    (cond (isText b) (alive (putOut state m)) dropped)
+    (cond (isText b) (alive (putOut state m)) (none BadByte))
 
 -- 21 up to a highest byte
 unfoldable pub rangedOf : Iso2022Jp → Iso2022Jp → ℕ → ℕ → Outcome Iso2022Jp
 rangedOf m next high b =
     cond (eqb b escapeByte) (alive (started m))
-    (cond (between 0x21 high b) (alive next) dropped)
+    (cond (between 0x21 high b) (alive next) (none BadByte))
 
 abbrev pub katakanaOf : Iso2022Jp → ℕ → Outcome Iso2022Jp
 katakanaOf m b = rangedOf m (putOut Katakana m) 0x5F b
@@ -107,11 +110,11 @@ pairAt lead b = (lead - 0x21) * 94 + (b - 0x21)
 unfoldable pub trailOf : List ℕ → Iso2022Jp → ℕ → Outcome Iso2022Jp
 trailOf index m b =
     cond (between 0x21 0x7E b)
-    (cond (indexedBy index (pairAt (m .lead) b)) (alive (holds LeadByte (m .out) 0 (m .output))) dropped)
-    dropped
+    (cond (indexedBy index (pairAt (m .lead) b)) (alive (holds LeadByte (m .out) 0 (m .output))) (none BadByte))
+    (none BadByte)
 
 unfoldable pub escapeStartOf : Iso2022Jp → ℕ → Outcome Iso2022Jp
-escapeStartOf m b = cond (leadsEscape b) (alive (holds Escape (m .out) b (m .output))) dropped
+escapeStartOf m b = cond (leadsEscape b) (alive (holds Escape (m .out) b (m .output))) (none BrokenEscape)
 
 -- what an escape's two bytes designate
 unfoldable pub designated : ℕ → ℕ → Designated
@@ -128,8 +131,8 @@ stateOf OutKatakana = Katakana
 stateOf OutLeadByte = LeadByte
 
 unfoldable pub escapedTo : Bool → Designated → Outcome Iso2022Jp
-escapedTo output Nothing = dropped
-escapedTo output (To o) = cond output dropped (alive (holds (stateOf o) o 0 true))
+escapedTo output Nothing = none BrokenEscape
+escapedTo output (To o) = cond output (none BrokenEscape) (alive (holds (stateOf o) o 0 true))
 
 abbrev pub escapeOf : Iso2022Jp → ℕ → Outcome Iso2022Jp
 escapeOf m b = escapedTo (m .output) (designated (m .lead) b)
@@ -156,9 +159,9 @@ closeIn Ascii m = alive m
 closeIn Roman m = alive m
 closeIn Katakana m = alive m
 closeIn LeadByte m = alive m
-closeIn TrailByte m = dropped
-closeIn EscapeStart m = dropped
-closeIn Escape m = dropped
+closeIn TrailByte m = none CutAtClose
+closeIn EscapeStart m = none CutAtClose
+closeIn Escape m = none CutAtClose
 
 abbrev pub closeOf : Iso2022Jp → Outcome Iso2022Jp
 closeOf m = closeIn (m .state) m
@@ -166,14 +169,14 @@ closeOf m = closeIn (m .state) m
 -- ---- the code's answers
 abbrev pub outOf : Stepped → Outcome Iso2022Jp
 outOf (Alive m g) = live m g
-outOf Invalid = dropped
+outOf (Invalid why) = none why
 
 -- the change of the score, which is 0, is not told
 abbrev living : Iso2022Jp → ℤ → Ran
 living m s = Live m
 
-abbrev pub ranAs : Outcome Iso2022Jp → Ran
-ranAs o = answered living Dropped o
+abbrev pub ranAs : ℕ → Outcome Iso2022Jp → Ran
+ranAs at o = answered living Dropped at o
 
 -- a record that the kind can hold, an index of the right length, and a stretch that is not too long
 pub record Ready (index : List ℕ) (m : Iso2022Jp) (xs : List ℕ) : Type 0 where
@@ -185,7 +188,8 @@ unfoldable pub readyB : List ℕ → Iso2022Jp → List ℕ → Bool
 readyB index m xs = soundB m && (eqb (length index) jisCount && leb (length xs) limit)
 
 unfoldable pub ranOf : List ℕ → Iso2022Jp → List ℕ → Ran
-ranOf index m xs = answeredIf living Dropped Unfit (readyB index m xs) (run (stepOf index) (alive m) xs)
+ranOf index m xs = answeredIf living Dropped Unfit (readyB index m xs) (lastAt (stepOf index) (alive m) xs) (run (stepOf index) (alive m) xs)
 
+-- the end takes no byte
 unfoldable pub closedOf : Iso2022Jp → Ran
-closedOf m = answeredIf living Dropped Unfit (soundB m) (closeOf m)
+closedOf m = answeredIf living Dropped Unfit (soundB m) 0 (closeOf m)

@@ -12,7 +12,9 @@ use borrow.Author.Tests.{eq-eqb, ne-eqb, eqb-true, le-leb, leb-true, ltb-true, l
 use Rattle.laws.specs.Lists.{any, isIn}
 use Rattle.lengths.specs.Lengths.{jisCount}
 use Rattle.laws.specs.Answer.{if-fit}
-use Rattle.laws.specs.Run.{Outcome, live, run, alive}
+use Rattle.laws.specs.declared.Reason.{Reason}
+use Rattle.laws.specs.declared.Reason.the-variants.{BadByte, BrokenEscape, CutAtClose}
+use Rattle.laws.specs.Run.{Outcome, none, live, run, lastAt, alive}
 use Rattle.laws.specs.Still.{Ends, run-ends}
 use Rattle.laws.specs.Tests.{both, neither, either}
 use Rattle.octets.specs.Octets.{between}
@@ -24,7 +26,7 @@ use Rattle.iso2022jp.specs.declared.OutputState.the-variants.{Ascii as O
 use Rattle.iso2022jp.specs.declared.Designated.{Designated}
 use Rattle.iso2022jp.specs.declared.Designated.the-variants.{To, Nothing}
 use Rattle.iso2022jp.specs.declared.Iso2022Jp.{Iso2022Jp}
-use Rattle.iso2022jp.specs.Iso2022Jp.{Passes, holds, fresh, LeadIn, Sound, leadsEscape, leadInB, soundB, indexedBy, escapeByte, putOut, isText, asciiOf, rangedOf, pairAt, trailOf, escapeStartOf, designated, stateOf, escapedTo, stepIn, stepOf, closeOf, ranAs, Ready, readyB, ranOf, closedOf}
+use Rattle.iso2022jp.specs.Iso2022Jp.{Passes, holds, fresh, LeadIn, Sound, leadsEscape, leadInB, soundB, indexedBy, escapeByte, putOut, isText, asciiOf, rangedOf, pairAt, trailOf, escapeStartOf, designated, stateOf, escapedTo, stepIn, stepOf, closeIn, closeOf, ranAs, Ready, readyB, ranOf, closedOf}
 
 -- ---- a byte in ASCII and Roman
 module _ (b : ℕ) where
@@ -160,6 +162,67 @@ module _ (index : List ℕ) where
   pub run-keeps : (m : Iso2022Jp) (s : ℤ) (xs : List ℕ) → Sound m → Ends Sound s (run (stepOf index) (live m s) xs)
   run-keeps m s xs h = run-ends (stepOf index) Sound (step-keeps index) s (live m s) xs (h, refl)
 
+-- ---- why a byte drops it out: a bad byte or a broken escape
+abbrev ByteReason : Reason → Type 0
+ByteReason d = (d ≡ BadByte) ⊎ (d ≡ BrokenEscape)
+
+abbrev Explained : Outcome Iso2022Jp → Type 0
+Explained (none d) = ByteReason d
+Explained (live m s) = Unit {0}
+
+module _ (m : Iso2022Jp) (b : ℕ) where
+  ascii-explained : (state : DecoderState) → Explained (asciiOf state m b)
+  unfolding asciiOf
+  ascii-explained state = either Explained (eqb b escapeByte) (λ e. tt) (λ e. either Explained (isText b) (λ e. tt) (λ e. inl refl))
+
+  ranged-explained : (next : Iso2022Jp) (high : ℕ) → Explained (rangedOf m next high b)
+  unfolding rangedOf
+  ranged-explained next high = either Explained (eqb b escapeByte) (λ e. tt) (λ e. either Explained (between 0x21 high b) (λ e. tt) (λ e. inl refl))
+
+  trail-explained : (index : List ℕ) → Explained (trailOf index m b)
+  unfolding trailOf
+  trail-explained index = either Explained (between 0x21 0x7E b) (λ e. either Explained (indexedBy index (pairAt (m .lead) b)) (λ e. tt) (λ e. inl refl)) (λ e. inl refl)
+
+  start-explained : Explained (escapeStartOf m b)
+  unfolding escapeStartOf
+  start-explained = either Explained (leadsEscape b) (λ e. tt) (λ e. inr refl)
+
+escaped-explained : (output : Bool) (t : Designated) → Explained (escapedTo output t)
+unfolding escapedTo
+escaped-explained output Nothing = inr refl
+escaped-explained output (To o) = either Explained output (λ e. inr refl) (λ e. tt)
+
+in-explained : (index : List ℕ) (state : DecoderState) (m : Iso2022Jp) (b : ℕ) → Explained (stepIn index state m b)
+unfolding stepIn
+in-explained index Ascii m b = ascii-explained m b Ascii
+in-explained index Roman m b = ascii-explained m b Roman
+in-explained index Katakana m b = ranged-explained m b (putOut Katakana m) 0x5F
+in-explained index LeadByte m b = ranged-explained m b (holds TrailByte (m .out) b false) 0x7E
+in-explained index TrailByte m b = trail-explained m b index
+in-explained index EscapeStart m b = start-explained m b
+in-explained index Escape m b = escaped-explained (m .output) (designated (m .lead) b)
+
+pub step-reason : (index : List ℕ) (m : Iso2022Jp) (b : ℕ) (d : Reason) → stepOf index m b ≡ none d → (d ≡ BadByte) ⊎ (d ≡ BrokenEscape)
+step-reason index m b d e = rw e at (in-explained index (m .state) m b)
+
+-- the end: something is cut
+abbrev CutShort : Outcome Iso2022Jp → Type 0
+CutShort (none d) = d ≡ CutAtClose
+CutShort (live m s) = Unit {0}
+
+close-cut : (state : DecoderState) (m : Iso2022Jp) → CutShort (closeIn state m)
+unfolding closeIn
+close-cut Ascii m = tt
+close-cut Roman m = tt
+close-cut Katakana m = tt
+close-cut LeadByte m = tt
+close-cut TrailByte m = refl
+close-cut EscapeStart m = refl
+close-cut Escape m = refl
+
+pub close-reason : (m : Iso2022Jp) (d : Reason) → closeOf m ≡ none d → d ≡ CutAtClose
+close-reason m d e = rw e at (close-cut (m .state) m)
+
 -- ---- what a call gives
 module _ (index : List ℕ) (m : Iso2022Jp) (xs : List ℕ) where
   pub true-ready : Ready index m xs → readyB index m xs ≡ true
@@ -174,10 +237,10 @@ module _ (index : List ℕ) (m : Iso2022Jp) (xs : List ℕ) where
       record { sound = sound-true m (p .0); sized = eqb-true _ _ (q .0); short = leb-true _ _ (q .1) }
 
   -- a caller that tested
-  pub ran-ready : Ready index m xs → ranOf index m xs ≡ ranAs (run (stepOf index) (alive m) xs)
+  pub ran-ready : Ready index m xs → ranOf index m xs ≡ ranAs (lastAt (stepOf index) (alive m) xs) (run (stepOf index) (alive m) xs)
   unfolding ranOf
-  ran-ready r = if-fit _ _ _ _ _ (true-ready r)
+  ran-ready r = if-fit _ _ _ _ _ _ (true-ready r)
 
-pub closed-ready : (m : Iso2022Jp) → Sound m → closedOf m ≡ ranAs (closeOf m)
+pub closed-ready : (m : Iso2022Jp) → Sound m → closedOf m ≡ ranAs 0 (closeOf m)
 unfolding closedOf
-closed-ready m h = if-fit _ _ _ _ _ (true-sound m h)
+closed-ready m h = if-fit _ _ _ _ _ _ (true-sound m h)

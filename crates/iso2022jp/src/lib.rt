@@ -3,10 +3,11 @@ ghost use mathlib.Core.Path.{_≡_};
 ghost use mathlib.Core.Bool.{true};
 ghost use Prim.Native.Nat.{_≤_};
 ghost use lib.ListN.{length};
-ghost use Rattle.laws.specs.Run.{run, alive};
+ghost use Rattle.laws.specs.Run.{run, lastAt, alive};
 ghost use Rattle.lengths.specs.Lengths.{jisCount};
 ghost use Rattle.octets.specs.Octets.{between};
 ghost use Rattle.iso2022jp.specs.Iso2022Jp.{Sound, Passes, asciiOf, closedOf, designated, escapeOf, escapeStartOf, fresh, isText, katakanaOf, leadOf, leadsEscape, outOf, ranAs, ranOf, rangedOf, soundB, started, stateOf, stepOf, trailOf};
+use laws::Reason;
 
 pub enum DecoderState {
     Ascii,
@@ -39,16 +40,17 @@ enum Designated {
     Nothing,
 }
 
-// The record after a byte and the change of the score, which is 0; or none.
+// The record after a byte and the change of the score, which is 0; or why there is none.
 enum Stepped {
     Alive(Iso2022Jp, i64),
-    Invalid,
+    Invalid(Reason),
 }
 
-// What a stretch, or the end of the stream, leaves: the record, or none; or the record, the stretch or the index was not fit.
+// What a stretch, or the end of the stream, leaves: the record; or why it drops out and at which offset in the stretch, 0 at
+// the end; or the record, the stretch or the index was not fit.
 pub enum Ran {
     Live(Iso2022Jp),
-    Dropped,
+    Dropped(Reason, usize),
     Unfit,
 }
 
@@ -178,7 +180,7 @@ impl Iso2022Jp {
             };
             return Stepped::Alive(next, 0);
         }
-        Stepped::Invalid
+        Stepped::Invalid(Reason::BadByte)
     }
 
     // Whether the byte is text of plain ASCII, which leaves the record as it is: the loop's short way.
@@ -206,7 +208,7 @@ impl Iso2022Jp {
         if is_between(0x21, high, b) {
             return Stepped::Alive(next, 0);
         }
-        Stepped::Invalid
+        Stepped::Invalid(Reason::BadByte)
     }
 
     fn katakana(self, b: u8) -> Stepped
@@ -241,7 +243,7 @@ impl Iso2022Jp {
         ensures { λ r. ⌜ outOf r ≡ trailOf (now (index .entry)) self b ⌝ }
     {
         if !is_between(0x21, 0x7E, b) {
-            return Stepped::Invalid;
+            return Stepped::Invalid(Reason::BadByte);
         }
         let at = (self.lead - 0x21) as usize * 94 + (b - 0x21) as usize;
         if entries::is_mapped(index[at], false) {
@@ -256,7 +258,7 @@ impl Iso2022Jp {
                 0,
             );
         }
-        Stepped::Invalid
+        Stepped::Invalid(Reason::BadByte)
     }
 
     fn escape_start(self, b: u8) -> Stepped
@@ -274,7 +276,7 @@ impl Iso2022Jp {
                 0,
             );
         }
-        Stepped::Invalid
+        Stepped::Invalid(Reason::BrokenEscape)
     }
 
     // An escape that follows another, with nothing put out between them, is an error.
@@ -282,10 +284,10 @@ impl Iso2022Jp {
         ensures { λ r. ⌜ outOf r ≡ escapeOf self b ⌝ }
     {
         let Designated::To(out) = designate(self.lead, b) else {
-            return Stepped::Invalid;
+            return Stepped::Invalid(Reason::BrokenEscape);
         };
         if self.output {
-            return Stepped::Invalid;
+            return Stepped::Invalid(Reason::BrokenEscape);
         }
         Stepped::Alive(
             Iso2022Jp {
@@ -315,7 +317,7 @@ impl Iso2022Jp {
 
     fn run_fit(self, part: &[u8], index: &[u32]) -> Ran
         requires { ⌜ Sound self × (length (now index) ≡ jisCount) ⌝ }
-        ensures { λ r. ⌜ r ≡ ranAs (run (stepOf (now (index .entry))) (alive self) (now (part .entry))) ⌝ }
+        ensures { λ r. ⌜ r ≡ ranAs (lastAt (stepOf (now (index .entry))) (alive self) (now (part .entry))) (run (stepOf (now (index .entry))) (alive self) (now (part .entry))) ⌝ }
     {
         let mut m = self;
         let mut i = 0;
@@ -325,10 +327,14 @@ impl Iso2022Jp {
                 i += 1;
                 continue;
             }
-            let Stepped::Alive(next, _) = m.step(b, index) else {
-                return Ran::Dropped;
-            };
-            m = next;
+            match m.step(b, index) {
+                Stepped::Alive(next, _) => {
+                    m = next;
+                }
+                Stepped::Invalid(reason) => {
+                    return Ran::Dropped(reason, i);
+                }
+            }
             i += 1;
         }
         Ran::Live(m)
@@ -356,7 +362,7 @@ impl Iso2022Jp {
             let state = self.state;
             return match state {
                 DecoderState::TrailByte | DecoderState::EscapeStart | DecoderState::Escape => {
-                    Ran::Dropped
+                    Ran::Dropped(Reason::CutAtClose, 0)
                 }
                 _ => Ran::Live(self),
             };

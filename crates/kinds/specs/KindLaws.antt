@@ -82,8 +82,11 @@ module _ (t : Own) where
   holds-alike m k e (none d) h = tt
   holds-alike m k e (live x s) h = h ∙ e
 
+  pub step-stays : (m k : Machine) (b : ℕ) → Alike m k → Holds (Alike m) (stepOf t k b)
+  step-stays m k b e = holds-alike m k e (stepOf t k b) (step-alike k b)
+
   pub run-alike : (m : Machine) (s : ℤ) (xs : List ℕ) → Holds (Alike m) (run (stepOf t) (live m s) xs)
-  run-alike m s xs = run-holds (stepOf t) (λ (n : ℕ). Alike m) (λ (n : ℕ) (k : Machine) (b : ℕ) (e : Alike m k). holds-alike m k e (stepOf t k b) (step-alike k b)) 0 (live m s) xs refl
+  run-alike m s xs = run-holds (stepOf t) (λ (n : ℕ). Alike m) (λ (n : ℕ) (k : Machine) (b : ℕ) (e : Alike m k). step-stays m k b e) 0 (live m s) xs refl
 
   pub close-alike : (m : Machine) → Holds (Alike m) (closeOf t m)
   unfolding closeOf freshOf

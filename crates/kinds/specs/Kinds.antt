@@ -5,8 +5,9 @@ use mathlib.Core.List.{List}
 use Prim.Native.Nat.{ℕ, _≤_}
 use lib.Dec.{eqb}
 use lib.IntN.{ℤ, pos, natAbs}
+use Rattle.laws.specs.Answer.{answered}
 use Rattle.laws.specs.Carried.{carried}
-use Rattle.laws.specs.Run.{Outcome, none, live}
+use Rattle.laws.specs.Run.{Outcome}
 use Rattle.big5.specs.Big5 as big5
 use Rattle.big5.specs.Scoring as big5-scoring
 use Rattle.big5.specs.declared.Ran.{Ran as Big5Ran}
@@ -84,48 +85,47 @@ closeOf o (Visual m) = carried Visual (visual.closeOf (lentTo o) m)
 closeOf o (ArabicFrench m) = carried ArabicFrench (arabicFrench.closeOf (lentTo o) m)
 
 -- ---- the code's answers
-unfoldable pub ranAs : Outcome Machine → Ran
-ranAs (none d) = Dropped
-ranAs (live m s) = Live m s
+abbrev pub ranAs : ℕ → Outcome Machine → Ran
+ranAs at o = answered Live Dropped at o
 
 abbrev pub ofUtf8 : Utf8Ran → Ran
 ofUtf8 (utf-8-ran.Live m) = Live (Utf8 m) (pos 0)
-ofUtf8 utf-8-ran.Dropped = Dropped
+ofUtf8 (utf-8-ran.Dropped d n) = Dropped d n
 ofUtf8 utf-8-ran.Unfit = Unfit
 
 abbrev pub ofIso2022Jp : Iso2022JpRan → Ran
 ofIso2022Jp (iso2022jp-ran.Live m) = Live (Iso2022Jp m) (pos 0)
-ofIso2022Jp iso2022jp-ran.Dropped = Dropped
+ofIso2022Jp (iso2022jp-ran.Dropped d n) = Dropped d n
 ofIso2022Jp iso2022jp-ran.Unfit = Unfit
 
 abbrev pub ofEucKr : EucKrRan → Ran
 ofEucKr (euckr-ran.Live m s) = Live (EucKr m) s
-ofEucKr euckr-ran.Dropped = Dropped
+ofEucKr (euckr-ran.Dropped d n) = Dropped d n
 ofEucKr euckr-ran.Unfit = Unfit
 
 abbrev pub ofBig5 : Big5Ran → Ran
 ofBig5 (big5-ran.Live m s) = Live (Big5 m) s
-ofBig5 big5-ran.Dropped = Dropped
+ofBig5 (big5-ran.Dropped d n) = Dropped d n
 ofBig5 big5-ran.Unfit = Unfit
 
 abbrev pub ofCaseless : CaselessRan → Ran
 ofCaseless (caseless-ran.Live m s) = Live (Caseless m) s
-ofCaseless caseless-ran.Dropped = Dropped
+ofCaseless (caseless-ran.Dropped d n) = Dropped d n
 ofCaseless caseless-ran.Unfit = Unfit
 
 abbrev pub ofLogical : LogicalRan → Ran
 ofLogical (logical-ran.Live m s) = Live (Logical m) s
-ofLogical logical-ran.Dropped = Dropped
+ofLogical (logical-ran.Dropped d n) = Dropped d n
 ofLogical logical-ran.Unfit = Unfit
 
 abbrev pub ofVisual : VisualRan → Ran
 ofVisual (visual-ran.Live m s) = Live (Visual m) s
-ofVisual visual-ran.Dropped = Dropped
+ofVisual (visual-ran.Dropped d n) = Dropped d n
 ofVisual visual-ran.Unfit = Unfit
 
 abbrev pub ofArabicFrench : ArabicFrenchRan → Ran
 ofArabicFrench (arabicFrench-ran.Live m s) = Live (ArabicFrench m) s
-ofArabicFrench arabicFrench-ran.Dropped = Dropped
+ofArabicFrench (arabicFrench-ran.Dropped d n) = Dropped d n
 ofArabicFrench arabicFrench-ran.Unfit = Unfit
 
 -- a stretch, and the end of the stream: for any record, any lent lists and any stretch
@@ -167,7 +167,7 @@ decodedEnd (ArabicFrench m) = Unfit
 -- a live answer's change of the score is at most c in size
 abbrev pub Bounded : ℕ → Ran → Type 0
 Bounded c (Live m s) = natAbs s ≤ c
-Bounded c Dropped = Unit {0}
+Bounded c (Dropped d n) = Unit {0}
 Bounded c Unfit = Unit {0}
 
 -- a live answer of the two machines that hold scores came of weights of 32 bits
@@ -183,5 +183,5 @@ WeighedIn (ArabicFrench m) w = Unit {0}
 
 abbrev pub Weighed : Machine → List ℤ → Ran → Type 0
 Weighed m w (Live n s) = WeighedIn m w
-Weighed m w Dropped = Unit {0}
+Weighed m w (Dropped d n) = Unit {0}
 Weighed m w Unfit = Unit {0}

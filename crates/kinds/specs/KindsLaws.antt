@@ -3,15 +3,16 @@
 use mathlib.Core.Path.{_≡_, refl, sym, ap, _∙_}
 use mathlib.Core.Bool.{Bool, false, cond}
 use mathlib.Core.List.{List}
-use Prim.Native.Nat.{ℕ, _*_, _≤_}
+use Prim.Native.Nat.{ℕ, _-_, _*_, _≤_}
 use native.Mathlib.Omega.{arith}
 use lib.Dec.{eqb}
 use lib.IntN.{ℤ, pos}
 use lib.ListN.{length}
-use Rattle.laws.specs.Answer.{answeredIf}
-use Rattle.laws.specs.Carried.{carried, run-carried}
+use Rattle.laws.specs.Answer.{answered, answeredIf}
+use Rattle.laws.specs.Carried.{carried, run-carried, ends-carried}
 use Rattle.laws.specs.Limit.{limit, room}
-use Rattle.laws.specs.Run.{dropout, Outcome, none, live, run}
+use Rattle.laws.specs.Run.{Outcome, none, live, run, lastAt}
+use Rattle.laws.specs.declared.Reason.{Reason}
 use Rattle.laws.specs.Still.{Ends}
 use Rattle.laws.specs.Tests.{either}
 use Rattle.big5.specs.Big5 as big5
@@ -101,46 +102,22 @@ module _ (t : Own) (s : ℤ) (xs : List ℕ) where
   run-arabicFrench m = run-carried ArabicFrench (arabicFrench.stepOf (lentTo t)) (stepOf t) (λ (n : ArabicFrenchRecord) (b : ℕ). refl) (live m s) xs
 
 -- ---- an answer of each kind is that of its outcome
-still-answer : {S : Type 0} (P : S → Type 0) (wrap : S → Machine) (answer : Outcome S → Ran) → answer (none dropout) ≡ Dropped → ((m : S) (s : ℤ) → answer (live m s) ≡ Live (wrap m) (pos 0)) → (o : Outcome S) → Ends P (pos 0) o → answer o ≡ ranAs (carried wrap o)
-unfolding ranAs carried
-still-answer P wrap answer none-is live-is (none d) h = none-is
-still-answer P wrap answer none-is live-is (live m s) h = live-is m s ∙ ap (Live (wrap m)) (sym (h .1))
+still-answer : {S : Type 0} (P : S → Type 0) (wrap : S → Machine) (answer : ℕ → Outcome S → Ran) → ((at : ℕ) (d : Reason) → answer at (none d) ≡ Dropped d at) → ((at : ℕ) (m : S) (s : ℤ) → answer at (live m s) ≡ Live (wrap m) (pos 0)) → (at : ℕ) (o : Outcome S) → Ends P (pos 0) o → answer at o ≡ ranAs at (carried wrap o)
+unfolding carried
+still-answer P wrap answer none-is live-is at (none d) h = none-is at d
+still-answer P wrap answer none-is live-is at (live m s) h = live-is at m s ∙ ap (Live (wrap m)) (sym (h .1))
 
-utf-8-answer : (o : Outcome Utf8Record) → Ends utf-8.Sound (pos 0) o → ofUtf8 (utf-8.ranAs o) ≡ ranAs (carried Utf8 o)
-utf-8-answer o h = still-answer utf-8.Sound Utf8 (λ (p : Outcome Utf8Record). ofUtf8 (utf-8.ranAs p)) refl (λ (m : Utf8Record) (s : ℤ). refl) o h
+utf-8-answer : (at : ℕ) (o : Outcome Utf8Record) → Ends utf-8.Sound (pos 0) o → ofUtf8 (utf-8.ranAs at o) ≡ ranAs at (carried Utf8 o)
+utf-8-answer at o h = still-answer utf-8.Sound Utf8 (λ (i : ℕ) (p : Outcome Utf8Record). ofUtf8 (utf-8.ranAs i p)) (λ (i : ℕ) (d : Reason). refl) (λ (i : ℕ) (m : Utf8Record) (s : ℤ). refl) at o h
 
-iso2022jp-answer : (o : Outcome Iso2022JpRecord) → Ends iso2022jp.Sound (pos 0) o → ofIso2022Jp (iso2022jp.ranAs o) ≡ ranAs (carried Iso2022Jp o)
-iso2022jp-answer o h = still-answer iso2022jp.Sound Iso2022Jp (λ (p : Outcome Iso2022JpRecord). ofIso2022Jp (iso2022jp.ranAs p)) refl (λ (m : Iso2022JpRecord) (s : ℤ). refl) o h
+iso2022jp-answer : (at : ℕ) (o : Outcome Iso2022JpRecord) → Ends iso2022jp.Sound (pos 0) o → ofIso2022Jp (iso2022jp.ranAs at o) ≡ ranAs at (carried Iso2022Jp o)
+iso2022jp-answer at o h = still-answer iso2022jp.Sound Iso2022Jp (λ (i : ℕ) (p : Outcome Iso2022JpRecord). ofIso2022Jp (iso2022jp.ranAs i p)) (λ (i : ℕ) (d : Reason). refl) (λ (i : ℕ) (m : Iso2022JpRecord) (s : ℤ). refl) at o h
 
-euckr-answer : (o : Outcome EucKrRecord) → ofEucKr (euckr.ranAs o) ≡ ranAs (carried EucKr o)
-unfolding ranAs carried
-euckr-answer (none d) = refl
-euckr-answer (live m s) = refl
-
-big5-answer : (o : Outcome Big5Record) → ofBig5 (big5.ranAs o) ≡ ranAs (carried Big5 o)
-unfolding ranAs carried
-big5-answer (none d) = refl
-big5-answer (live m s) = refl
-
-caseless-answer : (o : Outcome CaselessRecord) → ofCaseless (caseless.ranAs o) ≡ ranAs (carried Caseless o)
-unfolding ranAs carried
-caseless-answer (none d) = refl
-caseless-answer (live m s) = refl
-
-logical-answer : (o : Outcome LogicalRecord) → ofLogical (logical.ranAs o) ≡ ranAs (carried Logical o)
-unfolding ranAs carried
-logical-answer (none d) = refl
-logical-answer (live m s) = refl
-
-visual-answer : (o : Outcome VisualRecord) → ofVisual (visual.ranAs o) ≡ ranAs (carried Visual o)
-unfolding ranAs carried
-visual-answer (none d) = refl
-visual-answer (live m s) = refl
-
-arabicFrench-answer : (o : Outcome ArabicFrenchRecord) → ofArabicFrench (arabicFrench.ranAs o) ≡ ranAs (carried ArabicFrench o)
-unfolding ranAs carried
-arabicFrench-answer (none d) = refl
-arabicFrench-answer (live m s) = refl
+-- a machine whose answer tells the change of the score
+scored-answer : {S R : Type 0} (wrap : S → Machine) (of : R → Ran) (living : S → ℤ → R) (gone : Reason → ℕ → R) → ((m : S) (s : ℤ) → of (living m s) ≡ Live (wrap m) s) → ((d : Reason) (at : ℕ) → of (gone d at) ≡ Dropped d at) → (at : ℕ) (o : Outcome S) → of (answered living gone at o) ≡ ranAs at (carried wrap o)
+unfolding carried
+scored-answer wrap of living gone live-is none-is at (none d) = none-is d at
+scored-answer wrap of living gone live-is none-is at (live m s) = live-is m s
 
 -- ---- the ends that change no score
 pub utf-8-still : (m : Utf8Record) → utf-8.Sound m → Ends utf-8.Sound (pos 0) (utf-8.closeOf m)
@@ -160,35 +137,41 @@ iso2022jp-still-in D.Escape m o = tt
 pub iso2022jp-still : (m : Iso2022JpRecord) → iso2022jp.Sound m → Ends iso2022jp.Sound (pos 0) (iso2022jp.closeOf m)
 iso2022jp-still m o = iso2022jp-still-in (m .state) m o
 
+-- a machine's own answer to a stretch is the answer of the eight as one
+own-run : {S : Type 0} (wrap : S → Machine) (inner : S → ℕ → Outcome S) (outer : Machine → ℕ → Outcome Machine) → ((m : S) (b : ℕ) → outer (wrap m) b ≡ carried wrap (inner m b)) → (m : S) (xs : List ℕ) → ranAs (lastAt inner (live m (pos 0)) xs) (carried wrap (run inner (live m (pos 0)) xs)) ≡ ranAs (lastAt outer (live (wrap m) (pos 0)) xs) (run outer (live (wrap m) (pos 0)) xs)
+unfolding carried
+own-run wrap inner outer same m xs =
+    ap (λ (o : Outcome Machine). ranAs (lastAt inner (live m (pos 0)) xs) o) (sym (run-carried wrap inner outer same (live m (pos 0)) xs)) ∙ ap (λ (i : ℕ). ranAs (i - 1) (run outer (live (wrap m) (pos 0)) xs)) (sym (ends-carried wrap inner outer same (live m (pos 0)) xs))
+
 module _ (t : Own) where
-  -- ---- a stretch: what the code answers is the outcome of the run
+  -- ---- a stretch: what the code answers is the outcome of the run, and where it ends
   module _ (xs : List ℕ) (short : length xs ≤ limit) where
-    pub ran-fit : (m : Machine) → SizedAt (placeNumber m) t → SoundFor limit limit m → ranOf t m xs ≡ ranAs (run (stepOf t) (live m (pos 0)) xs)
-    unfolding ranOf
+    pub ran-fit : (m : Machine) → SizedAt (placeNumber m) t → SoundFor limit limit m → ranOf t m xs ≡ ranAs (lastAt (stepOf t) (live m (pos 0)) xs) (run (stepOf t) (live m (pos 0)) xs)
+    unfolding ranOf stepOf
     ran-fit (Utf8 m) z o =
-        ap ofUtf8 (utf-8-laws.ran-ready m xs (record { sound = o; short = short })) ∙ (utf-8-answer (run utf-8.stepOf (live m (pos 0)) xs) (utf-8-laws.run-keeps m (pos 0) xs o) ∙ ap ranAs (sym (run-utf-8 t (pos 0) xs m)))
+        ap ofUtf8 (utf-8-laws.ran-ready m xs (record { sound = o; short = short })) ∙ (utf-8-answer _ (run utf-8.stepOf (live m (pos 0)) xs) (utf-8-laws.run-keeps m (pos 0) xs o) ∙ own-run Utf8 utf-8.stepOf (stepOf t) (λ x b. refl) m xs)
     ran-fit (Iso2022Jp m) z o =
-        ap ofIso2022Jp (iso2022jp-laws.ran-ready (t .index) m xs (record { sound = o; sized = z; short = short })) ∙ (iso2022jp-answer (run (iso2022jp.stepOf (t .index)) (live m (pos 0)) xs) (iso2022jp-laws.run-keeps (t .index) m (pos 0) xs o) ∙ ap ranAs (sym (run-iso2022jp t (pos 0) xs m)))
+        ap ofIso2022Jp (iso2022jp-laws.ran-ready (t .index) m xs (record { sound = o; sized = z; short = short })) ∙ (iso2022jp-answer _ (run (iso2022jp.stepOf (t .index)) (live m (pos 0)) xs) (iso2022jp-laws.run-keeps (t .index) m (pos 0) xs o) ∙ own-run Iso2022Jp (iso2022jp.stepOf (t .index)) (stepOf t) (λ x b. refl) m xs)
     ran-fit (EucKr m) z o =
-        ap ofEucKr (euckr-laws.ran-ready (t .index) (t .extras) (t .weights) m xs (record { sound = euckr-laws.sound-more limit room m (omega arith) o; short = short; index-length = z .0; extras-length = z .1 .0; weights-length = z .1 .1 })) ∙ (euckr-answer _ ∙ ap ranAs (sym (run-euckr t (pos 0) xs m)))
+        ap ofEucKr (euckr-laws.ran-ready (t .index) (t .extras) (t .weights) m xs (record { sound = euckr-laws.sound-more limit room m (omega arith) o; short = short; index-length = z .0; extras-length = z .1 .0; weights-length = z .1 .1 })) ∙ (scored-answer EucKr ofEucKr euckr-ran.Live euckr-ran.Dropped (λ x k. refl) (λ d i. refl) _ _ ∙ own-run EucKr (euckr-scoring.stepOf (euckr-scoring.lent (t .index) (t .extras) (euckr-scoring.scaleOf (t .weights)))) (stepOf t) (λ x b. refl) m xs)
     ran-fit (Big5 m) z o =
-        ap ofBig5 (big5-laws.ran-ready (t .index) (t .weights) m xs (record { sound = o; short = short; index-length = z .0; weights-length = z .1 })) ∙ (big5-answer _ ∙ ap ranAs (sym (run-big5 t (pos 0) xs m)))
-    ran-fit (Caseless m) z o = ap ofCaseless (caseless-laws.ran-fit (lentTo t) m xs (record { sized = z; sound = caseless-laws.sound-more limit room m (omega arith) (o .1); short = short })) ∙ (caseless-answer _ ∙ ap ranAs (sym (run-caseless t (pos 0) xs m)))
-    ran-fit (Logical m) z o = ap ofLogical (logical-laws.ran-fit (lentTo t) m xs (record { sized = z; sound = logical-laws.sound-more limit room m (omega arith) (o .1 .1); short = short })) ∙ (logical-answer _ ∙ ap ranAs (sym (run-logical t (pos 0) xs m)))
-    ran-fit (Visual m) z o = ap ofVisual (visual-laws.ran-fit (lentTo t) m xs (record { sized = z; sound = visual-laws.sound-more limit room m (omega arith) (o .1); short = short })) ∙ (visual-answer _ ∙ ap ranAs (sym (run-visual t (pos 0) xs m)))
-    ran-fit (ArabicFrench m) z o = ap ofArabicFrench (arabicFrench-laws.ran-fit (lentTo t) m xs (record { sized = z; sound = arabicFrench-laws.sound-more limit room m (omega arith) (o .1); short = short })) ∙ (arabicFrench-answer _ ∙ ap ranAs (sym (run-arabicFrench t (pos 0) xs m)))
+        ap ofBig5 (big5-laws.ran-ready (t .index) (t .weights) m xs (record { sound = o; short = short; index-length = z .0; weights-length = z .1 })) ∙ (scored-answer Big5 ofBig5 big5-ran.Live big5-ran.Dropped (λ x k. refl) (λ d i. refl) _ _ ∙ own-run Big5 (big5-scoring.stepOf (big5-scoring.lent (t .index) (big5-scoring.scaleOf (t .weights)))) (stepOf t) (λ x b. refl) m xs)
+    ran-fit (Caseless m) z o = ap ofCaseless (caseless-laws.ran-fit (lentTo t) m xs (record { sized = z; sound = caseless-laws.sound-more limit room m (omega arith) (o .1); short = short })) ∙ (scored-answer Caseless ofCaseless caseless-ran.Live caseless-ran.Dropped (λ x k. refl) (λ d i. refl) _ _ ∙ own-run Caseless (caseless.stepOf (lentTo t)) (stepOf t) (λ x b. refl) m xs)
+    ran-fit (Logical m) z o = ap ofLogical (logical-laws.ran-fit (lentTo t) m xs (record { sized = z; sound = logical-laws.sound-more limit room m (omega arith) (o .1 .1); short = short })) ∙ (scored-answer Logical ofLogical logical-ran.Live logical-ran.Dropped (λ x k. refl) (λ d i. refl) _ _ ∙ own-run Logical (logical.stepOf (lentTo t)) (stepOf t) (λ x b. refl) m xs)
+    ran-fit (Visual m) z o = ap ofVisual (visual-laws.ran-fit (lentTo t) m xs (record { sized = z; sound = visual-laws.sound-more limit room m (omega arith) (o .1); short = short })) ∙ (scored-answer Visual ofVisual visual-ran.Live visual-ran.Dropped (λ x k. refl) (λ d i. refl) _ _ ∙ own-run Visual (visual.stepOf (lentTo t)) (stepOf t) (λ x b. refl) m xs)
+    ran-fit (ArabicFrench m) z o = ap ofArabicFrench (arabicFrench-laws.ran-fit (lentTo t) m xs (record { sized = z; sound = arabicFrench-laws.sound-more limit room m (omega arith) (o .1); short = short })) ∙ (scored-answer ArabicFrench ofArabicFrench arabicFrench-ran.Live arabicFrench-ran.Dropped (λ x k. refl) (λ d i. refl) _ _ ∙ own-run ArabicFrench (arabicFrench.stepOf (lentTo t)) (stepOf t) (λ x b. refl) m xs)
 
   -- ---- the end of the stream, after a stretch
-  pub closed-fit : (m : Machine) → SizedAt (placeNumber m) t → SoundFor (2 * limit) (2 * limit) m → closedOf t m ≡ ranAs (closeOf t m)
+  pub closed-fit : (m : Machine) → SizedAt (placeNumber m) t → SoundFor (2 * limit) (2 * limit) m → closedOf t m ≡ ranAs 0 (closeOf t m)
   unfolding closedOf closeOf
-  closed-fit (Utf8 m) z o = ap ofUtf8 (utf-8-laws.closed-ready m o) ∙ utf-8-answer (utf-8.closeOf m) (utf-8-still m o)
-  closed-fit (Iso2022Jp m) z o = ap ofIso2022Jp (iso2022jp-laws.closed-ready m o) ∙ iso2022jp-answer (iso2022jp.closeOf m) (iso2022jp-still m o)
-  closed-fit (EucKr m) z o = ap ofEucKr (euckr-laws.closed-ready m (euckr-laws.sound-more (2 * limit) room m (omega arith) o)) ∙ euckr-answer (euckr.closeOf m)
-  closed-fit (Big5 m) z o = ap ofBig5 (big5-laws.closed-ready m (big5-laws.sound-any (2 * limit) limit m o)) ∙ big5-answer (big5.closeOf m)
-  closed-fit (Caseless m) z o = ap ofCaseless (caseless-laws.closed-fit (lentTo t) m (record { sized = z; sound = caseless-laws.sound-more (2 * limit) room m (omega arith) (o .1); short = omega arith })) ∙ caseless-answer _
-  closed-fit (Logical m) z o = ap ofLogical (logical-laws.closed-fit (lentTo t) m (record { sized = z; sound = logical-laws.sound-more (2 * limit) room m (omega arith) (o .1 .1); short = omega arith })) ∙ logical-answer _
-  closed-fit (Visual m) z o = ap ofVisual (visual-laws.closed-fit (lentTo t) m (record { sized = z; sound = visual-laws.sound-more (2 * limit) room m (omega arith) (o .1); short = omega arith })) ∙ visual-answer _
-  closed-fit (ArabicFrench m) z o = ap ofArabicFrench (arabicFrench-laws.closed-fit (lentTo t) m (record { sized = z; sound = arabicFrench-laws.sound-more (2 * limit) room m (omega arith) (o .1); short = omega arith })) ∙ arabicFrench-answer _
+  closed-fit (Utf8 m) z o = ap ofUtf8 (utf-8-laws.closed-ready m o) ∙ utf-8-answer 0 (utf-8.closeOf m) (utf-8-still m o)
+  closed-fit (Iso2022Jp m) z o = ap ofIso2022Jp (iso2022jp-laws.closed-ready m o) ∙ iso2022jp-answer 0 (iso2022jp.closeOf m) (iso2022jp-still m o)
+  closed-fit (EucKr m) z o = ap ofEucKr (euckr-laws.closed-ready m (euckr-laws.sound-more (2 * limit) room m (omega arith) o)) ∙ scored-answer EucKr ofEucKr euckr-ran.Live euckr-ran.Dropped (λ x k. refl) (λ d i. refl) 0 (euckr.closeOf m)
+  closed-fit (Big5 m) z o = ap ofBig5 (big5-laws.closed-ready m (big5-laws.sound-any (2 * limit) limit m o)) ∙ scored-answer Big5 ofBig5 big5-ran.Live big5-ran.Dropped (λ x k. refl) (λ d i. refl) 0 (big5.closeOf m)
+  closed-fit (Caseless m) z o = ap ofCaseless (caseless-laws.closed-fit (lentTo t) m (record { sized = z; sound = caseless-laws.sound-more (2 * limit) room m (omega arith) (o .1); short = omega arith })) ∙ scored-answer Caseless ofCaseless caseless-ran.Live caseless-ran.Dropped (λ x k. refl) (λ d i. refl) 0 _
+  closed-fit (Logical m) z o = ap ofLogical (logical-laws.closed-fit (lentTo t) m (record { sized = z; sound = logical-laws.sound-more (2 * limit) room m (omega arith) (o .1 .1); short = omega arith })) ∙ scored-answer Logical ofLogical logical-ran.Live logical-ran.Dropped (λ x k. refl) (λ d i. refl) 0 _
+  closed-fit (Visual m) z o = ap ofVisual (visual-laws.closed-fit (lentTo t) m (record { sized = z; sound = visual-laws.sound-more (2 * limit) room m (omega arith) (o .1); short = omega arith })) ∙ scored-answer Visual ofVisual visual-ran.Live visual-ran.Dropped (λ x k. refl) (λ d i. refl) 0 _
+  closed-fit (ArabicFrench m) z o = ap ofArabicFrench (arabicFrench-laws.closed-fit (lentTo t) m (record { sized = z; sound = arabicFrench-laws.sound-more (2 * limit) room m (omega arith) (o .1); short = omega arith })) ∙ scored-answer ArabicFrench ofArabicFrench arabicFrench-ran.Live arabicFrench-ran.Dropped (λ x k. refl) (λ d i. refl) 0 _
 
 -- ---- a machine of another kind than the one that is run alone
 pub unfit-at : (k : ℕ) (o : Own) (m : Machine) (xs : List ℕ) → false ≡ eqb (placeNumber m) k → Unfit ≡ ranAt k o m xs
@@ -198,42 +181,42 @@ unfit-at k o m xs h = ap (λ (b : Bool). cond b (ranOf o m xs) Unfit) h
 module _ (c : ℕ) where
   pub bounded-utf-8 : (r : Utf8Ran) → Bounded c (ofUtf8 r)
   bounded-utf-8 (utf-8-ran.Live m) = omega arith
-  bounded-utf-8 utf-8-ran.Dropped = tt
+  bounded-utf-8 (utf-8-ran.Dropped d n) = tt
   bounded-utf-8 utf-8-ran.Unfit = tt
 
   pub bounded-iso2022jp : (r : Iso2022JpRan) → Bounded c (ofIso2022Jp r)
   bounded-iso2022jp (iso2022jp-ran.Live m) = omega arith
-  bounded-iso2022jp iso2022jp-ran.Dropped = tt
+  bounded-iso2022jp (iso2022jp-ran.Dropped d n) = tt
   bounded-iso2022jp iso2022jp-ran.Unfit = tt
 
   pub bounded-euckr : (r : EucKrRan) → euckr.Bounded c r → Bounded c (ofEucKr r)
   bounded-euckr (euckr-ran.Live m s) h = h
-  bounded-euckr euckr-ran.Dropped h = tt
+  bounded-euckr (euckr-ran.Dropped d n) h = tt
   bounded-euckr euckr-ran.Unfit h = tt
 
   pub bounded-big5 : (r : Big5Ran) → big5.Bounded c r → Bounded c (ofBig5 r)
   bounded-big5 (big5-ran.Live m s) h = h
-  bounded-big5 big5-ran.Dropped h = tt
+  bounded-big5 (big5-ran.Dropped d n) h = tt
   bounded-big5 big5-ran.Unfit h = tt
 
   pub bounded-caseless : (r : CaselessRan) → caseless.Bounded c r → Bounded c (ofCaseless r)
   bounded-caseless (caseless-ran.Live m s) h = h
-  bounded-caseless caseless-ran.Dropped h = tt
+  bounded-caseless (caseless-ran.Dropped d n) h = tt
   bounded-caseless caseless-ran.Unfit h = tt
 
   pub bounded-logical : (r : LogicalRan) → logical.Bounded c r → Bounded c (ofLogical r)
   bounded-logical (logical-ran.Live m s) h = h
-  bounded-logical logical-ran.Dropped h = tt
+  bounded-logical (logical-ran.Dropped d n) h = tt
   bounded-logical logical-ran.Unfit h = tt
 
   pub bounded-visual : (r : VisualRan) → visual.Bounded c r → Bounded c (ofVisual r)
   bounded-visual (visual-ran.Live m s) h = h
-  bounded-visual visual-ran.Dropped h = tt
+  bounded-visual (visual-ran.Dropped d n) h = tt
   bounded-visual visual-ran.Unfit h = tt
 
   pub bounded-arabicFrench : (r : ArabicFrenchRan) → arabicFrench.Bounded c r → Bounded c (ofArabicFrench r)
   bounded-arabicFrench (arabicFrench-ran.Live m s) h = h
-  bounded-arabicFrench arabicFrench-ran.Dropped h = tt
+  bounded-arabicFrench (arabicFrench-ran.Dropped d n) h = tt
   bounded-arabicFrench arabicFrench-ran.Unfit h = tt
 
   -- the end of the stream changes no score of it
@@ -241,7 +224,7 @@ module _ (c : ℕ) where
   unfolding euckr.closedOf answeredIf
   closed-euckr m =
       either (euckr.Bounded c) (euckr.soundB room m)
-      (λ e. either (λ (o : Outcome EucKrRecord). euckr.Bounded c (euckr.ranAs o)) (eqb (m .lead) 0) (λ e. omega arith) (λ e. tt))
+      (λ e. either (λ (o : Outcome EucKrRecord). euckr.Bounded c (euckr.ranAs 0 o)) (eqb (m .lead) 0) (λ e. omega arith) (λ e. tt))
       (λ e. tt)
 
   -- the end of the stream changes no score of it
@@ -249,21 +232,21 @@ module _ (c : ℕ) where
   unfolding big5.closedOf answeredIf
   closed-big5 m =
       either (big5.Bounded c) (big5.soundB limit m)
-      (λ e. either (λ (o : Outcome Big5Record). big5.Bounded c (big5.ranAs o)) (eqb (m .lead) 0) (λ e. omega arith) (λ e. tt))
+      (λ e. either (λ (o : Outcome Big5Record). big5.Bounded c (big5.ranAs 0 o)) (eqb (m .lead) 0) (λ e. omega arith) (λ e. tt))
       (λ e. tt)
 
 module _ (w : List ℤ) where
   pub weighed-euckr : (m : EucKrRecord) (r : EucKrRan) → euckr.Weighed w r → Weighed (EucKr m) w (ofEucKr r)
   weighed-euckr m (euckr-ran.Live n s) h = h
-  weighed-euckr m euckr-ran.Dropped h = tt
+  weighed-euckr m (euckr-ran.Dropped d n) h = tt
   weighed-euckr m euckr-ran.Unfit h = tt
 
   pub weighed-big5 : (m : Big5Record) (r : Big5Ran) → big5.Weighed w r → Weighed (Big5 m) w (ofBig5 r)
   weighed-big5 m (big5-ran.Live n s) h = h
-  weighed-big5 m big5-ran.Dropped h = tt
+  weighed-big5 m (big5-ran.Dropped d n) h = tt
   weighed-big5 m big5-ran.Unfit h = tt
 
   pub weighed-other : (m : Machine) → WeighedIn m w → (r : Ran) → Weighed m w r
   weighed-other m h (Live n s) = h
-  weighed-other m h Dropped = tt
+  weighed-other m h (Dropped d n) = tt
   weighed-other m h Unfit = tt

@@ -3,5 +3,7 @@ pub mod KindLaws
 pub mod Kinds
 pub mod KindsLaws
 pub mod Plain
+pub mod Reasons
+pub mod ReasonsLaws
 pub mod Sound
 pub mod SoundLaws

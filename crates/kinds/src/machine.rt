@@ -14,6 +14,7 @@ use euckr;
 use euckr::EucKr;
 use iso2022jp;
 use iso2022jp::Iso2022Jp;
+use laws::Reason;
 use logical::Logical;
 use utf8;
 use utf8::Utf8;
@@ -30,11 +31,11 @@ pub enum Machine {
     ArabicFrench(ArabicFrench),
 }
 
-// The machine after a stretch of bytes or the end of the stream, and by how much its score changed; or it dropped out; or
-// its record, a lent length or the stretch was not fit to run.
+// The machine after a stretch of bytes or the end of the stream, and by how much its score changed; or why it dropped out, and
+// at which offset in the stretch; or its record, a lent length or the stretch was not fit to run.
 pub enum Ran {
     Live(Machine, i64),
-    Dropped,
+    Dropped(Reason, usize),
     Unfit,
 }
 
@@ -43,7 +44,7 @@ fn of_utf8(r: utf8::Ran) -> Ran
 {
     match r {
         utf8::Ran::Live(m) => Ran::Live(Machine::Utf8(m), 0),
-        utf8::Ran::Dropped => Ran::Dropped,
+        utf8::Ran::Dropped(reason, at) => Ran::Dropped(reason, at),
         utf8::Ran::Unfit => Ran::Unfit,
     }
 }
@@ -53,7 +54,7 @@ fn of_iso2022jp(r: iso2022jp::Ran) -> Ran
 {
     match r {
         iso2022jp::Ran::Live(m) => Ran::Live(Machine::Iso2022Jp(m), 0),
-        iso2022jp::Ran::Dropped => Ran::Dropped,
+        iso2022jp::Ran::Dropped(reason, at) => Ran::Dropped(reason, at),
         iso2022jp::Ran::Unfit => Ran::Unfit,
     }
 }
@@ -63,7 +64,7 @@ fn of_euckr(r: euckr::Ran) -> Ran
 {
     match r {
         euckr::Ran::Live(m, change) => Ran::Live(Machine::EucKr(m), change),
-        euckr::Ran::Dropped => Ran::Dropped,
+        euckr::Ran::Dropped(reason, at) => Ran::Dropped(reason, at),
         euckr::Ran::Unfit => Ran::Unfit,
     }
 }
@@ -73,7 +74,7 @@ fn of_big5(r: big5::Ran) -> Ran
 {
     match r {
         big5::Ran::Live(m, change) => Ran::Live(Machine::Big5(m), change),
-        big5::Ran::Dropped => Ran::Dropped,
+        big5::Ran::Dropped(reason, at) => Ran::Dropped(reason, at),
         big5::Ran::Unfit => Ran::Unfit,
     }
 }
@@ -83,7 +84,7 @@ fn of_caseless(r: caseless::Ran) -> Ran
 {
     match r {
         caseless::Ran::Live(m, change) => Ran::Live(Machine::Caseless(m), change),
-        caseless::Ran::Dropped => Ran::Dropped,
+        caseless::Ran::Dropped(reason, at) => Ran::Dropped(reason, at),
         caseless::Ran::Unfit => Ran::Unfit,
     }
 }
@@ -93,7 +94,7 @@ fn of_logical(r: logical::Ran) -> Ran
 {
     match r {
         logical::Ran::Live(m, change) => Ran::Live(Machine::Logical(m), change),
-        logical::Ran::Dropped => Ran::Dropped,
+        logical::Ran::Dropped(reason, at) => Ran::Dropped(reason, at),
         logical::Ran::Unfit => Ran::Unfit,
     }
 }
@@ -103,7 +104,7 @@ fn of_visual(r: visual::Ran) -> Ran
 {
     match r {
         visual::Ran::Live(m, change) => Ran::Live(Machine::Visual(m), change),
-        visual::Ran::Dropped => Ran::Dropped,
+        visual::Ran::Dropped(reason, at) => Ran::Dropped(reason, at),
         visual::Ran::Unfit => Ran::Unfit,
     }
 }
@@ -113,7 +114,7 @@ fn of_arabic_french(r: arabic_french::Ran) -> Ran
 {
     match r {
         arabic_french::Ran::Live(m, change) => Ran::Live(Machine::ArabicFrench(m), change),
-        arabic_french::Ran::Dropped => Ran::Dropped,
+        arabic_french::Ran::Dropped(reason, at) => Ran::Dropped(reason, at),
         arabic_french::Ran::Unfit => Ran::Unfit,
     }
 }

@@ -19,7 +19,7 @@ use Rattle.state.specs.Leader.{leaderOf}
 use Rattle.state.specs.State.{startOf}
 use Rattle.state.specs.declared.State.{State}
 use Rattle.detector.specs.Feed.{refusalOf, placesBy, advanceOf, feedBy}
-use Rattle.detector.specs.Front.{Reaches, none, some, reachesOf}
+use Rattle.detector.specs.Front.{Reaches, none, some, reachesOf, frontOf}
 use Rattle.detector.specs.declared.feed.Verdict.{Verdict}
 use Rattle.detector.specs.declared.feed.Verdict.the-variants.{Accept, Refuse}
 use Rattle.demo.specs.Demo.{demonstration}
@@ -30,7 +30,7 @@ use Rattle.label.specs.Label.{most, stateOf, answerOf}
 -- ---- a sheet
 scored : (s : score.Score) → Fits 21 (scoreText s)
 unfolding scoreText
-scored score.the-variants.None = wide (text "none") refl
+scored (score.the-variants.None d at) = wide (text "none") refl
 scored (score.the-variants.Live n) = signed n
 
 place : (k : ℕ) (s : score.Score) → Fits 36 (placeLine k s)
@@ -56,19 +56,19 @@ sheet-whole s xs e h = whole 512 xs (sheetOf s) (sheet-short s e) (omega arith)
 
 -- ---- an answer: a feed leaves as many places as there were
 module _ (t : Tables) where
-  from-length : (last : Bool) (xs : List ℕ) (k : ℕ) (ps : List Place) → length (feedFrom t last xs k ps) ≡ length ps
+  from-length : (last : Bool) (body : ℕ) (xs : List ℕ) (k : ℕ) (ps : List Place) → length (feedFrom t last body xs k ps) ≡ length ps
   unfolding feedFrom
-  from-length last xs k [] = refl
-  from-length last xs k (p ∷ ps) = rw (from-length last xs (suc k) ps)
+  from-length last body xs k [] = refl
+  from-length last body xs k (p ∷ ps) = rw (from-length last body xs (suc k) ps)
 
-  places-length : (last : Bool) (ps : List Place) (r : Reaches) → length (placesBy t last ps r) ≡ length ps
+  places-length : (last : Bool) (body : ℕ) (ps : List Place) (r : Reaches) → length (placesBy t last body ps r) ≡ length ps
   unfolding placesBy
-  places-length last ps none = refl
-  places-length last ps (some before part) = from-length last part 0 (feedAll t false before ps) ∙ from-length false before 0 ps
+  places-length last body ps none = refl
+  places-length last body ps (some before part) = from-length last body part 0 (feedAll t false 0 before ps) ∙ from-length false 0 before 0 ps
 
   fed-length : (s : State) (bs : List ℕ) (last : Bool) (v : Verdict) → length (feedBy t s bs last v .state .places) ≡ length (s .places)
   unfolding feedBy advanceOf
-  fed-length s bs last Accept = places-length last (s .places) (reachesOf (s .front) bs)
+  fed-length s bs last Accept = places-length last (frontOf (s .front) bs last .body) (s .places) (reachesOf (s .front) bs)
   fed-length s bs last (Refuse r) = refl
 
 eight : (bs : List ℕ) → length (stateOf bs .places) ≡ 8

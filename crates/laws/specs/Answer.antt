@@ -5,23 +5,24 @@ use mathlib.Core.Bool.{Bool, true, false, cond}
 use Prim.Native.Nat.{ℕ, _≤_}
 use native.Mathlib.Omega.{arith}
 use lib.IntN.{ℤ, natAbs}
+use Rattle.laws.specs.declared.Reason.{Reason}
 use Rattle.laws.specs.Run.{Outcome, none, live, WhenLive}
 
 pub data Answer (S : Type 0) : Type 0 where
   ran : Outcome S → Answer S
   unfit : Answer S
 
--- ---- from an outcome to the enum
-abbrev pub answered : {S R : Type 0} → (S → ℤ → R) → R → Outcome S → R
-answered alive gone (none d) = gone
-answered alive gone (live m s) = alive m s
+-- ---- from an outcome to the enum; a drop-out is told with its reason and where in the stretch it happened
+abbrev pub answered : {S R : Type 0} → (S → ℤ → R) → (Reason → ℕ → R) → ℕ → Outcome S → R
+answered alive gone at (none d) = gone d at
+answered alive gone at (live m s) = alive m s
 
-module _ {S R : Type 0} (alive : S → ℤ → R) (gone refused : R) (fit : Bool) (o : Outcome S) where
+module _ {S R : Type 0} (alive : S → ℤ → R) (gone : Reason → ℕ → R) (refused : R) (fit : Bool) (at : ℕ) (o : Outcome S) where
   -- behind the test at the entry of the call
   unfoldable pub answeredIf : R
-  answeredIf = cond fit (answered alive gone o) refused
+  answeredIf = cond fit (answered alive gone at o) refused
 
-  pub if-fit : fit ≡ true → answeredIf ≡ answered alive gone o
+  pub if-fit : fit ≡ true → answeredIf ≡ answered alive gone at o
   unfolding answeredIf
   if-fit e = rw e
 

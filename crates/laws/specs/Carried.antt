@@ -7,7 +7,7 @@ use lib.IntN.{ℤ}
 use lib.ListN.{length}
 use Rattle.laws.specs.Lists.{last}
 use Rattle.laws.specs.Memory.{Forgets}
-use Rattle.laws.specs.Run.{Out, none, live, plus, withByte, run, WhenLive, run-when}
+use Rattle.laws.specs.Run.{Out, none, live, plus, takes, withByte, run, endsAt, WhenLive, WhenNone, run-when}
 
 module _ {D S T : Type 0} (wrap : S → T) where
   unfoldable pub carried : Out D S → Out D T
@@ -19,6 +19,11 @@ module _ {D S T : Type 0} (wrap : S → T) where
   carried-plus k (none d) = refl
   carried-plus k (live m s) = refl
 
+  carried-takes : (o : Out D S) → takes (carried o) ≡ takes o
+  unfolding carried takes
+  carried-takes (none d) = refl
+  carried-takes (live m s) = refl
+
   module _ (inner : S → ℕ → Out D S) (outer : T → ℕ → Out D T) (same : (m : S) (b : ℕ) → outer (wrap m) b ≡ carried (inner m b)) where
     byte-carried : (o : Out D S) (b : ℕ) → withByte outer (carried o) b ≡ carried (withByte inner o b)
     unfolding carried withByte
@@ -29,6 +34,11 @@ module _ {D S T : Type 0} (wrap : S → T) where
     unfolding run
     run-carried o [] = refl
     run-carried o (x ∷ xs) = ap (λ (p : Out D T). run outer p xs) (byte-carried o x) ∙ run-carried (withByte inner o x) xs
+
+    pub ends-carried : (o : Out D S) (xs : List ℕ) → endsAt outer (carried o) xs ≡ endsAt inner o xs
+    unfolding endsAt
+    ends-carried o [] = refl
+    ends-carried o (x ∷ xs) = rw (carried-takes o, byte-carried o x, ends-carried (withByte inner o x) xs)
 
 pub forgets-carried : {D S T : Type 0} {q : ℕ → Bool} {inner : S → ℕ → Out D S} {outer : T → ℕ → Out D T} {fresh : S} (wrap : S → T) → ((m : S) (b : ℕ) → outer (wrap m) b ≡ carried wrap (inner m b)) → Forgets q inner fresh → Forgets q outer (wrap fresh)
 unfolding carried
@@ -52,6 +62,12 @@ pub holds-carried : {D S T : Type 0} (wrap : S → T) (P : T → Type 0) (o : Ou
 unfolding carried
 holds-carried wrap P (none d) h = tt
 holds-carried wrap P (live m s) h = h
+
+-- the reason of a drop-out
+pub none-carried : {D S T : Type 0} (wrap : S → T) (P : D → Type 0) (o : Out D S) → ((d : D) → o ≡ none d → P d) → WhenNone P (carried wrap o)
+unfolding carried
+none-carried wrap P (none d) h = h d refl
+none-carried wrap P (live m s) h = tt
 
 -- P n is what holds of a record after n bytes
 pub run-holds : {D S : Type 0} (step : S → ℕ → Out D S) (P : ℕ → S → Type 0) → ((n : ℕ) (m : S) (b : ℕ) → P n m → Holds (P (n + 1)) (step m b)) → (n : ℕ) (o : Out D S) (xs : List ℕ) → Holds (P n) o → Holds (P (n + length xs)) (run step o xs)

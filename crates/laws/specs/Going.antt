@@ -8,7 +8,7 @@ use lib.IntN.{ℤ, pos, natAbs, _+ℤ_}
 use lib.ListN.{length, getD, drop, length-drop}
 use mir.Syntax.{w64}
 use mir.Val.{SFits, toZ, ofZ}
-use Rattle.laws.specs.Run.{Out, none, live, alive, run, run-done, turn-live, turn-none}
+use Rattle.laws.specs.Run.{Out, none, live, alive, run, endsAt, lastAt, run-done, turn-live, turn-none, ends-turn-live, ends-turn-none}
 use Rattle.laws.specs.Sizes.{abs-add, fits64, thru, thru64}
 
 -- P n is what holds of a record after n bytes, and a byte changes the score by at most g: after i bytes of xs, from a record of
@@ -18,10 +18,11 @@ pub record Going {D S : Type 0} (step : S → ℕ → Out D S) (P : ℕ → S �
   pub sound : P (n + i) m
   pub small : natAbs s ≤ g * i
   pub rest : run step (live m s) (drop i xs) ≡ run step (alive start) xs
+  pub ends : i + endsAt step (live m s) (drop i xs) ≡ endsAt step (alive start) xs
 
 module _ {D S : Type 0} {step : S → ℕ → Out D S} {P : ℕ → S → Type 0} {g n : ℕ} {start : S} {xs : List ℕ} where
   pub going-start : P n start → Going step P g n start xs 0 start (pos 0)
-  going-start p = record { within = omega arith; sound = rw add-zero p; small = omega arith; rest = refl }
+  going-start p = record { within = omega arith; sound = rw add-zero p; small = omega arith; rest = refl; ends = omega arith }
 
   module _ {i : ℕ} {m : S} {s : ℤ} (going : Going step P g n start xs i m s) where
     module _ (h : length xs ≤ i) where
@@ -35,6 +36,10 @@ module _ {D S : Type 0} {step : S → ℕ → Out D S} {P : ℕ → S → Type 0
       pub going-none : {d : D} → step m (getD xs i 0) ≡ none d → none d ≡ run step (alive start) xs
       going-none {d} e = turn-none step m s xs i h d e ∙ going .rest
 
+      -- and that byte is the last one that the run takes
+      pub going-at : {d : D} → step m (getD xs i 0) ≡ none d → i ≡ lastAt step (alive start) xs
+      going-at {d} e = omega (arith, ends-turn-none step m s xs i h d e, going .ends)
+
       module _ {next : S} {k : ℤ} (gave : step m (getD xs i 0) ≡ live next k) (least : natAbs k ≤ g) where
         sum-small : natAbs (s +ℤ k) ≤ g * (i + 1)
         sum-small = omega (arith, abs-add s k, going .small)
@@ -42,7 +47,7 @@ module _ {D S : Type 0} {step : S → ℕ → Out D S} {P : ℕ → S → Type 0
         pub going-turn : P (n + i + 1) next → Going step P g n start xs (i + 1) next (s +ℤ k)
         going-turn p =
             let q : n + i + 1 ≡ n + (i + 1) = omega arith in
-            record { within = omega arith; sound = rw q at p; small = sum-small; rest = turn-live step m s xs i h next k gave ∙ going .rest }
+            record { within = omega arith; sound = rw q at p; small = sum-small; rest = turn-live step m s xs i h next k gave ∙ going .rest; ends = omega (arith, ends-turn-live step m s xs i h next k gave, going .ends) }
 
         -- the code's own sum of 64 bits fits as long as the bound over the whole of xs does
         module _ {most : ℕ} (short : length xs ≤ most) (room : g * most < 2 ^ 63) where

@@ -2,31 +2,23 @@
 -- score changes, or that the machine drops out.
 use mathlib.Core.Path.{_≡_, refl, sym, ap, _∙_}
 use mathlib.Core.List.{List, [], _∷_, _++_}
-use Prim.Native.Nat.{ℕ, suc, _+_, _<_, _≤_}
+use Prim.Native.Nat.{ℕ, suc, _+_, _-_, _<_, _≤_}
 use native.Mathlib.Nat.{add-zero, not-suc-le-zero}
 use native.Mathlib.Numerals.{add-one}
 use native.Mathlib.Omega.{arith}
 use lib.IntN.{ℤ, pos, natAbs, _+ℤ_, +ℤ-assoc, +ℤ-idl}
 use lib.ListN.{length, getD, drop}
 use lib.Seq.{drop-cons}
+use Rattle.laws.specs.declared.Reason.{Reason}
 
 -- D is what a drop-out carries
 pub data Out (D S : Type 0) : Type 0 where
   none : D → Out D S
   live : S → ℤ → Out D S
 
--- a machine that drops out carries nothing
-abbrev pub Dropout : Type 0
-Dropout = Unit {0}
-
-abbrev pub dropout : Dropout
-dropout = tt
-
+-- a machine that drops out carries the reason
 abbrev pub Outcome : Type 0 → Type 0
-Outcome S = Out Dropout S
-
-abbrev pub dropped : {S : Type 0} → Outcome S
-dropped = none dropout
+Outcome S = Out Reason S
 
 -- alive, with the score as it was
 abbrev pub alive : {D S : Type 0} → S → Out D S
@@ -36,6 +28,11 @@ alive m = live m (pos 0)
 unfoldable pub plus : {D S : Type 0} → ℤ → Out D S → Out D S
 plus k (none d) = none d
 plus k (live m s) = live m (k +ℤ s)
+
+-- how many bytes an outcome takes of one: a machine that dropped out takes none
+unfoldable pub takes : {D S : Type 0} → Out D S → ℕ
+takes (none d) = 0
+takes (live m s) = 1
 
 module _ {D S : Type 0} (step : S → ℕ → Out D S) where
   -- one byte, from what the bytes before it gave
@@ -47,6 +44,15 @@ module _ {D S : Type 0} (step : S → ℕ → Out D S) where
   unfoldable pub run : Out D S → List ℕ → Out D S
   run o [] = o
   run o (b ∷ bs) = run (withByte o b) bs
+
+  -- where the run ends: how many of the bytes it takes, the one at which it drops out among them
+  unfoldable pub endsAt : Out D S → List ℕ → ℕ
+  endsAt o [] = 0
+  endsAt o (b ∷ bs) = takes o + endsAt (withByte o b) bs
+
+  -- the offset of the last byte that it takes
+  abbrev pub lastAt : Out D S → List ℕ → ℕ
+  lastAt o bs = endsAt o bs - 1
 
 -- the end of the stream, from what the bytes before it gave
 unfoldable pub ended : {D S : Type 0} → (S → Out D S) → Out D S → Out D S
@@ -116,6 +122,78 @@ module _ {D S : Type 0} (step : S → ℕ → Out D S) where
     unfolding plus
     turn-none d e = sym (run-at ∙ ap (λ (o : Out D S). run step (plus s o) (drop (i + 1) xs)) e ∙ run-none d (drop (i + 1) xs))
 
+-- ---- where a run ends
+module _ {D S : Type 0} (step : S → ℕ → Out D S) where
+  -- from none it takes nothing
+  pub ends-none : (d : D) (xs : List ℕ) → endsAt step (none d) xs ≡ 0
+  unfolding endsAt takes withByte
+  ends-none d [] = refl
+  ends-none d (x ∷ xs) = omega (arith, ends-none d xs)
+
+  -- one byte is taken
+  pub ends-one : (m : S) (b : ℕ) → endsAt step (live m (pos 0)) (b ∷ []) ≡ 1
+  unfolding endsAt takes
+  ends-one m b = refl
+
+  -- joining: over xs ++ ys it ends where the run over xs does, and then where the run over ys from there does
+  pub ends-append : (o : Out D S) (xs ys : List ℕ) → endsAt step o (xs ++ ys) ≡ endsAt step o xs + endsAt step (run step o xs) ys
+  unfolding endsAt run
+  ends-append o [] ys = omega arith
+  ends-append o (x ∷ xs) ys = omega (arith, ends-append (withByte step o x) xs ys)
+
+  takes-plus : (k : ℤ) (o : Out D S) → takes (plus k o) ≡ takes o
+  unfolding takes plus
+  takes-plus k (none d) = refl
+  takes-plus k (live m s) = refl
+
+  -- shifting: the score does not matter
+  pub ends-plus : (k : ℤ) (o : Out D S) (xs : List ℕ) → endsAt step (plus k o) xs ≡ endsAt step o xs
+  unfolding endsAt
+  ends-plus k o [] = refl
+  ends-plus k o (x ∷ xs) = rw (takes-plus k o, byte-plus step k o x, ends-plus k (withByte step o x) xs)
+
+  takes-one : (o : Out D S) → takes o ≤ 1
+  unfolding takes
+  takes-one (none d) = omega arith
+  takes-one (live m s) = omega arith
+
+  pub ends-most : (o : Out D S) (xs : List ℕ) → endsAt step o xs ≤ length xs
+  unfolding endsAt
+  ends-most o [] = omega arith
+  ends-most o (x ∷ xs) = omega (arith, takes-one o, ends-most (withByte step o x) xs)
+
+  live-takes : (o : Out D S) (xs : List ℕ) (n : S) (t : ℤ) → run step o xs ≡ live n t → takes o ≡ 1
+  unfolding takes
+  live-takes (none d) xs n t e = let q : none d ≡ live n t = sym (run-none step d xs) ∙ e in let z : _≡_ {A = ℕ} 0 1 = cc in omega arith
+  live-takes (live m s) xs n t e = refl
+
+  -- what lives takes all
+  pub ends-live : (o : Out D S) (xs : List ℕ) (n : S) (t : ℤ) → run step o xs ≡ live n t → endsAt step o xs ≡ length xs
+  unfolding endsAt run
+  ends-live o [] n t e = refl
+  ends-live o (x ∷ xs) n t e = omega (arith, live-takes o (x ∷ xs) n t e, ends-live (withByte step o x) xs n t e)
+
+  -- what drops out from a live machine has taken a byte
+  pub ends-some : (m : S) (s : ℤ) (xs : List ℕ) (d : D) → run step (live m s) xs ≡ none d → 1 ≤ endsAt step (live m s) xs
+  unfolding run endsAt takes
+  ends-some m s [] d e = let z : _≡_ {A = ℕ} 0 1 = cc in absurd (omega arith)
+  ends-some m s (x ∷ xs) d e = omega arith
+
+  -- ---- for a loop: one turn at i
+  module _ (m : S) (s : ℤ) (xs : List ℕ) (i : ℕ) (h : i < length xs) where
+    ends-turn : endsAt step (live m s) (drop i xs) ≡ 1 + endsAt step (plus s (step m (getD xs i 0))) (drop (i + 1) xs)
+    unfolding endsAt takes withByte
+    ends-turn = rw (drop-cons xs i 0 h, add-one)
+
+    pub ends-turn-live : (n : S) (g : ℤ) → step m (getD xs i 0) ≡ live n g → endsAt step (live m s) (drop i xs) ≡ 1 + endsAt step (live n (s +ℤ g)) (drop (i + 1) xs)
+    unfolding plus
+    ends-turn-live n g e = ends-turn ∙ ap (λ (o : Out D S). 1 + endsAt step (plus s o) (drop (i + 1) xs)) e
+
+    pub ends-turn-none : (d : D) → step m (getD xs i 0) ≡ none d → endsAt step (live m s) (drop i xs) ≡ 1
+    unfolding plus
+    ends-turn-none d e =
+        ends-turn ∙ (ap (λ (o : Out D S). 1 + endsAt step (plus s o) (drop (i + 1) xs)) e ∙ ap (λ (k : ℕ). 1 + k) (ends-none d (drop (i + 1) xs)))
+
 -- ---- what a run keeps
 -- what holds of the record and the score, where the outcome is live
 abbrev pub WhenLive : {D S : Type 0} → (S → ℤ → Type 0) → Out D S → Type 0
@@ -144,6 +222,33 @@ module _ {D S : Type 0} (step : S → ℕ → Out D S) (P : ℕ → S → ℤ �
   run-when i o (x ∷ xs) h =
       let e : i + 1 + length xs ≡ i + suc (length xs) = omega arith in
       rw e at (run-when (i + 1) (withByte step o x) xs (byte-when i o x h))
+
+-- ---- why a run drops out
+-- what holds of the reason, where the outcome is none
+abbrev pub WhenNone : {D S : Type 0} → (D → Type 0) → Out D S → Type 0
+WhenNone P (none d) = P d
+WhenNone P (live m s) = Unit {0}
+
+pub none-more : {D S : Type 0} {P Q : D → Type 0} → ((d : D) → P d → Q d) → (o : Out D S) → WhenNone P o → WhenNone Q o
+none-more f (none d) h = f d h
+none-more f (live m s) h = tt
+
+pub none-plus : {D S : Type 0} (P : D → Type 0) (k : ℤ) (o : Out D S) → WhenNone P o → WhenNone P (plus k o)
+unfolding plus
+none-plus P k (none d) h = h
+none-plus P k (live m s) h = tt
+
+-- Q is what the step keeps of a record; from such a record it drops out for reasons of which P holds
+module _ {D S : Type 0} (step : S → ℕ → Out D S) (Q : S → Type 0) (P : D → Type 0) (keeps : (m : S) (b : ℕ) → Q m → WhenLive (λ n g. Q n) (step m b)) (drops : (m : S) (b : ℕ) → Q m → WhenNone P (step m b)) where
+  why-from : (o : Out D S) (xs : List ℕ) → WhenLive (λ m s. Q m) o → WhenNone P o → WhenNone P (run step o xs)
+  unfolding run withByte
+  why-from o [] q p = p
+  why-from (none d) (x ∷ xs) q p = why-from (none d) xs tt p
+  why-from (live m s) (x ∷ xs) q p =
+      why-from (plus s (step m x)) xs (when-plus (λ n g. Q n) s (step m x) (keeps m x q)) (none-plus P s (step m x) (drops m x q))
+
+  pub run-why : (m : S) (s : ℤ) (xs : List ℕ) → Q m → WhenNone P (run step (live m s) xs)
+  run-why m s xs q = why-from (live m s) xs q tt
 
 -- a live outcome has a record of which P holds, and a score of size at most c
 abbrev pub Within : {D S : Type 0} → (S → Type 0) → ℕ → Out D S → Type 0

@@ -4,7 +4,7 @@ use mathlib.Core.List.{List, _∷_, _++_}
 use Prim.Native.Nat.{ℕ, _+_}
 use native.Mathlib.Omega.{arith}
 use lib.IntN.{ℤ, pos, +ℤ-idr}
-use Rattle.laws.specs.Run.{WhenLive, when-more, run-when, Out, none, live, plus, withByte, run, run-append, run-none, run-plus, ended}
+use Rattle.laws.specs.Run.{WhenLive, when-more, run-when, Out, none, live, plus, withByte, run, endsAt, run-append, run-none, run-plus, ends-plus, ended}
 
 abbrev pub Lives : {D S : Type 0} → Out D S → Type 0
 Lives {S} o = (m : S) × ((s : ℤ) × (o ≡ live m s))
@@ -23,6 +23,10 @@ module _ {D S : Type 0} (step : S → ℕ → Out D S) where
   pub from-zero : (m : S) (s : ℤ) (xs : List ℕ) → run step (live m s) xs ≡ plus s (run step (live m (pos 0)) xs)
   unfolding plus
   from-zero m s xs = ap (λ (z : ℤ). run step (live m z) xs) (sym (+ℤ-idr s)) ∙ run-plus step s (live m (pos 0)) xs
+
+  pub ends-from-zero : (m : S) (s : ℤ) (xs : List ℕ) → endsAt step (live m s) xs ≡ endsAt step (live m (pos 0)) xs
+  unfolding plus
+  ends-from-zero m s xs = ap (λ (z : ℤ). endsAt step (live m z) xs) (sym (+ℤ-idr s)) ∙ ends-plus step s (live m (pos 0)) xs
 
   pub lives : (m n : S) (s : ℤ) (xs : List ℕ) → run step (live m (pos 0)) xs ≡ live n (pos 0) → run step (live m s) xs ≡ live n s
   unfolding plus

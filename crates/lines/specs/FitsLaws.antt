@@ -6,7 +6,8 @@ use Prim.Native.Nat.{ℕ, zero, suc, _*_, _≤_}
 use native.Mathlib.Omega.{arith}
 use lib.ListN.{length, take, drop}
 use lib.Seq.{take-nil}
-use Rattle.names.specs.NamesLaws.{place-name}
+use Rattle.laws.specs.declared.Reason.{Reason}
+use Rattle.names.specs.NamesLaws.{place-name, reason-name}
 use Rattle.scribe.specs.FitsLaws.{Fits, text, line-end, joined, wide, flag, hex, decimal, signed, whole}
 use Rattle.scribe.specs.Page.{page, onto}
 use Rattle.context.specs.Context.{bytesOf}
@@ -36,7 +37,7 @@ use Rattle.state.specs.declared.State.{State}
 use Rattle.state.specs.declared.front.Front.{Front}
 use Rattle.lines.specs.Fields.{heldText, utf8Text, iso2022jpText, euckrText, big5Text, classText, wordsText, caselessText, logicalText, visualText, arabicFrenchText}
 use Rattle.lines.specs.Names.{stateName, outName, koreanName, cjName, caseName}
-use Rattle.lines.specs.Show.{savedText, frontText, recordText, scoredText, placeText, placesText, stateText}
+use Rattle.lines.specs.Show.{savedText, bytesText, frontText, recordText, droppedText, scoredText, placeText, placesText, stateText}
 
 held : (h : Held) → Fits 21 (heldText h)
 unfolding heldText
@@ -102,9 +103,13 @@ in-record (Visual m) = wide (joined (joined (joined (class (m .prev) (m .«prev_
 in-record (ArabicFrench m) = wide (joined (joined (joined (class (m .prev) (m .«prev_ascii»)) (text " case=")) (case-name (m .«case_state»))) (words (m .«current_word_len») (m .«longest_word»))) refl
 
 -- ---- lines
+dropped : (d : Reason) (at : ℕ) → Fits 43 (droppedText d at)
+unfolding droppedText
+dropped d at = joined (joined (joined (text " none ") (reason-name d)) (joined (text " ") (decimal at))) line-end
+
 scored : (m : Machine) (s : score.Score) → Fits 151 (scoredText m s)
 unfolding scoredText
-scored m score.the-variants.None = wide (joined (text " none") line-end) refl
+scored m (score.the-variants.None d at) = wide (dropped d at) refl
 scored m (score.the-variants.Live n) = joined (joined (joined (text " ") (signed n)) (in-record m)) line-end
 
 places : (ps : List Place) → Fits (164 * length ps) (placesText ps)
@@ -119,9 +124,13 @@ saved zero a b = wide (text "-") refl
 saved (suc zero) a b = wide (joined (hex a) (text "")) refl
 saved (suc (suc n)) a b = rw (take-nil n) (wide (joined (hex a) (joined (hex b) (text ""))) refl)
 
-front : (f : Front) → Fits 91 (frontText f)
+bytes : (n body : ℕ) → Fits 53 (bytesText n body)
+unfolding bytesText
+bytes n body = joined (joined (text " bytes=") (decimal n)) (joined (text " body=") (decimal body))
+
+front : (f : Front) → Fits 117 (frontText f)
 unfolding frontText
-front f = joined (joined (joined (joined (joined (joined (text "front context=") (saved (f .context .len) (f .context .first) (f .context .second))) (joined (text " esc=") (flag (f .«esc_seen»)))) (joined (text " nonascii=") (decimal (f .«non_ascii_seen»)))) (joined (text " closed=") (flag (f .closed)))) (joined (text " bytes=") (decimal (f .bytes)))) line-end
+front f = joined (joined (joined (joined (joined (joined (text "front context=") (saved (f .context .len) (f .context .first) (f .context .second))) (joined (text " esc=") (flag (f .«esc_seen»)))) (joined (text " nonascii=") (decimal (f .«non_ascii_seen»)))) (joined (text " closed=") (flag (f .closed)))) (bytes (f .bytes) (f .body))) line-end
 
 pub state-short : (s : State) → length (s .places) ≡ 8 → Fits 2048 (stateText s)
 unfolding stateText

@@ -1,7 +1,8 @@
 -- Whole lines as text: a reply's, and the ten of a state.
 use mathlib.Core.List.{List, [], _∷_, _++_}
 use Prim.Native.Nat.{ℕ}
-use Rattle.names.specs.Names.{placeName}
+use Rattle.laws.specs.declared.Reason.{Reason}
+use Rattle.names.specs.Names.{placeName, reasonName}
 use Rattle.scribe.specs.Text.{ascii, newline, flagOf, hexOf, decimalOf, signedOf}
 use Rattle.context.specs.Context.{bytesOf}
 use Rattle.kinds.specs.Kinds.{placeNumber}
@@ -30,6 +31,10 @@ abbrev pub savedText : List ℕ → List ℕ
 savedText [] = ascii "-"
 savedText (b ∷ bs) = hexesOf (b ∷ bs)
 
+-- how many bytes were accepted, and how many of them from the end of the head on
+unfoldable pub bytesText : ℕ → ℕ → List ℕ
+bytesText n body = (ascii " bytes=" ++ decimalOf n) ++ (ascii " body=" ++ decimalOf body)
+
 unfoldable pub frontText : Front → List ℕ
 frontText f =
     ascii "front context="
@@ -37,7 +42,7 @@ frontText f =
     ++ (ascii " esc=" ++ flagOf (f .«esc_seen»))
     ++ (ascii " nonascii=" ++ decimalOf (f .«non_ascii_seen»))
     ++ (ascii " closed=" ++ flagOf (f .closed))
-    ++ (ascii " bytes=" ++ decimalOf (f .bytes))
+    ++ bytesText (f .bytes) (f .body)
     ++ newline
 
 -- ---- the places
@@ -51,9 +56,12 @@ recordText (Logical m) = logicalText m
 recordText (Visual m) = visualText m
 recordText (ArabicFrench m) = arabicFrenchText m
 
--- a place without a score shows nothing of its record
+-- a place without a score shows why and where, and nothing of its record
+unfoldable pub droppedText : Reason → ℕ → List ℕ
+droppedText d at = ascii " none " ++ reasonName d ++ (ascii " " ++ decimalOf at) ++ newline
+
 unfoldable pub scoredText : Machine → score.Score → List ℕ
-scoredText m score.the-variants.None = ascii " none" ++ newline
+scoredText m (score.the-variants.None d at) = droppedText d at
 scoredText m (score.the-variants.Live n) = ascii " " ++ signedOf n ++ recordText m ++ newline
 
 unfoldable pub placeText : Place → List ℕ

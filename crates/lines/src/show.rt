@@ -1,12 +1,13 @@
 // Whole lines: a reply, a place, and the ten of a state.
 ghost use mathlib.Core.Path.{_≡_};
 ghost use Rattle.context.specs.Context.{bytesOf};
-ghost use Rattle.lines.specs.Show.{savedText, replyText, frontText, recordText, scoredText, placeText, placesText, stateText};
+ghost use Rattle.lines.specs.Show.{savedText, replyText, bytesText, frontText, recordText, droppedText, scoredText, placeText, placesText, stateText};
 ghost use Rattle.scribe.specs.Page.{page, onto};
 ghost use Rattle.scribe.specs.Text.{newline};
 use crate::fields;
 use context::Context;
 use kinds::machine::Machine;
+use laws::Reason;
 use names;
 use places::place::Place;
 use places::place::Score;
@@ -47,6 +48,14 @@ fn saved(out: &mut [u8], at: usize, context: Context) -> usize
     page::hex(out, a, context.second)
 }
 
+// How many bytes were accepted, and how many of them from the end of the head on.
+fn bytes(out: &mut [u8], at: usize, all: u64, body: u64) -> usize
+    ensures { λ r. ⌜ page (now (out .exit)) r ≡ onto (page (now (out .entry)) at) (bytesText all body) ⌝ }
+{
+    let a = fields::count(out, at, b" bytes=", all);
+    fields::count(out, a, b" body=", body)
+}
+
 fn front(out: &mut [u8], at: usize, front: Front) -> usize
     ensures { λ r. ⌜ page (now (out .exit)) r ≡ onto (page (now (out .entry)) at) (frontText front) ⌝ }
 {
@@ -56,7 +65,7 @@ fn front(out: &mut [u8], at: usize, front: Front) -> usize
     let c = fields::flag(out, b, b" esc=", front.esc_seen);
     let d = fields::count(out, c, b" nonascii=", front.non_ascii_seen);
     let e = fields::flag(out, d, b" closed=", front.closed);
-    let f = fields::count(out, e, b" bytes=", front.bytes);
+    let f = bytes(out, e, front.bytes, front.body);
     end_line(out, f)
 }
 
@@ -76,17 +85,29 @@ fn machine_fields(out: &mut [u8], at: usize, machine: Machine) -> usize
     }
 }
 
+// What follows the name of a place without a score: why, and the place of the byte.
+fn dropped(out: &mut [u8], at: usize, reason: Reason, byte: u64) -> usize
+    ensures { λ r. ⌜ page (now (out .exit)) r ≡ onto (page (now (out .entry)) at) (droppedText reason byte) ⌝ }
+{
+    let a = page::word(out, at, b" none ");
+    let b = names::reason(out, a, reason);
+    let c = fields::count(out, b, b" ", byte);
+    end_line(out, c)
+}
+
 // What follows a place's name.
 fn scored(out: &mut [u8], at: usize, machine: Machine, score: Score) -> usize
     ensures { λ r. ⌜ page (now (out .exit)) r ≡ onto (page (now (out .entry)) at) (scoredText machine score) ⌝ }
 {
-    let Score::Live(n) = score else {
-        return page::word(out, at, b" none\n");
-    };
-    let a = page::word(out, at, b" ");
-    let b = page::signed(out, a, n);
-    let c = machine_fields(out, b, machine);
-    end_line(out, c)
+    match score {
+        Score::None(reason, byte) => dropped(out, at, reason, byte),
+        Score::Live(n) => {
+            let a = page::word(out, at, b" ");
+            let b = page::signed(out, a, n);
+            let c = machine_fields(out, b, machine);
+            end_line(out, c)
+        }
+    }
 }
 
 pub fn place(out: &mut [u8], at: usize, place: Place) -> usize

@@ -4,7 +4,8 @@ use mathlib.Core.List.{List}
 use Prim.Native.Nat.{ℕ, _≤_}
 use lib.Dec.{leb}
 use Rattle.laws.specs.Answer.{Answer, ran, unfit, answered, BoundedBy}
-use Rattle.laws.specs.Run.{Outcome, live, dropped}
+use Rattle.laws.specs.Run.{Outcome, none, live}
+use Rattle.laws.specs.declared.Reason.the-variants.{Class255}
 use Rattle.octets.specs.Octets.{ascii}
 use Rattle.single.specs.Class.{caselessOf, alphabetic, alphabeticOf, unless255}
 use Rattle.laws.specs.Limit.{room}
@@ -17,6 +18,8 @@ use Rattle.single.specs.Words.{wordOf, longestOf}
 use Rattle.logical.specs.declared.Logical.{Logical}
 use Rattle.logical.specs.declared.Ran.{Ran}
 use Rattle.logical.specs.declared.Ran.the-variants.{Live, Dropped, Unfit}
+use Rattle.logical.specs.declared.Stepped.{Stepped}
+use Rattle.logical.specs.declared.Stepped.the-variants.{Live as SteppedLive, Dropped as SteppedDropped}
 
 abbrev pub fresh : Logical
 fresh = record { prev = 0; «prev_ascii» = true; «plausible_punctuation» = 0; «current_word_len» = 0; «longest_word» = 0 }
@@ -57,11 +60,16 @@ soundB n m = leb (m .«plausible_punctuation») n && commonB n (m .prev) (m .«c
 -- ---- the answers
 abbrev pub answerOf : Ran → Answer Logical
 answerOf (Live m s) = ran (live m s)
-answerOf Dropped = ran dropped
+answerOf (Dropped d n) = ran (none d)
 answerOf Unfit = unfit
 
-abbrev pub ranAs : Outcome Logical → Ran
-ranAs o = answered Live Dropped o
+abbrev pub tookOf : Stepped → Answer Logical
+tookOf (SteppedLive m s) = ran (live m s)
+tookOf SteppedDropped = ran (none Class255)
+
+-- what happened, and where
+abbrev pub ranAs : ℕ → Outcome Logical → Ran
+ranAs at o = answered Live Dropped at o
 
 unfoldable pub ranOf : Lent → Logical → List ℕ → Ran
 ranOf t m xs = ranBy stepOf (soundB room) Live Dropped Unfit t m xs

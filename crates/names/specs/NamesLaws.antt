@@ -1,7 +1,9 @@
--- The last name, whatever the number above; how long a name can be.
+-- The last name, whatever the number above; how long a name or a word can be.
 use mathlib.Core.Path.{_≡_, refl}
 use Prim.Native.Nat.{ℕ, zero, suc}
-use Rattle.names.specs.Names.{placeName}
+use Rattle.laws.specs.declared.Reason.{Reason}
+use Rattle.laws.specs.declared.Reason.the-variants.{Class255, BadByte, BadSecondByte, BrokenEscape, CutAtClose, NotInSlate}
+use Rattle.names.specs.Names.{placeName, reasonName}
 use Rattle.scribe.specs.FitsLaws.{Fits, text, wide}
 use Rattle.scribe.specs.Text.{ascii}
 
@@ -27,3 +29,13 @@ place-name (suc (suc (suc (suc zero)))) = wide (text "caseless") refl
 place-name (suc (suc (suc (suc (suc zero))))) = wide (text "logical") refl
 place-name (suc (suc (suc (suc (suc (suc zero)))))) = wide (text "visual") refl
 place-name (suc (suc (suc (suc (suc (suc (suc k))))))) = wide (text "arabic-french") refl
+
+-- no reason's word has more than 15
+pub reason-name : (d : Reason) → Fits 15 (reasonName d)
+unfolding reasonName
+reason-name Class255 = wide (text "class-255") refl
+reason-name BadByte = wide (text "bad-byte") refl
+reason-name BadSecondByte = wide (text "bad-second-byte") refl
+reason-name BrokenEscape = wide (text "broken-escape") refl
+reason-name CutAtClose = wide (text "cut-at-close") refl
+reason-name NotInSlate = wide (text "not-in-slate") refl

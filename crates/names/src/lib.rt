@@ -1,7 +1,8 @@
-// The places' names, as document 01 spells them.
+// The places' names, as document 01 spells them, and the reasons' words.
 ghost use mathlib.Core.Path.{_≡_};
-ghost use Rattle.names.specs.Names.{placeName};
+ghost use Rattle.names.specs.Names.{placeName, reasonName};
 ghost use Rattle.scribe.specs.Page.{page, onto};
+use laws::Reason;
 use libc::STDOUT_FILENO;
 use scribe::page;
 
@@ -21,7 +22,21 @@ pub fn place(out: &mut [u8], at: usize, k: usize) -> usize
     }
 }
 
-// The same on standard output.
+// Why a place has no score, in a word.
+pub fn reason(out: &mut [u8], at: usize, reason: Reason) -> usize
+    ensures { λ r. ⌜ page (now (out .exit)) r ≡ onto (page (now (out .entry)) at) (reasonName reason) ⌝ }
+{
+    match reason {
+        Reason::Class255 => page::word(out, at, b"class-255"),
+        Reason::BadByte => page::word(out, at, b"bad-byte"),
+        Reason::BadSecondByte => page::word(out, at, b"bad-second-byte"),
+        Reason::BrokenEscape => page::word(out, at, b"broken-escape"),
+        Reason::CutAtClose => page::word(out, at, b"cut-at-close"),
+        Reason::NotInSlate => page::word(out, at, b"not-in-slate"),
+    }
+}
+
+// A place's name on standard output.
 pub fn print_place(k: usize) {
     let mut text = [0u8; 16];
     let end = place(&mut text, 0, k);

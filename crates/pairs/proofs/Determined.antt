@@ -9,6 +9,8 @@ use Rattle.pairs.proofs.malformed.Kinds as malformed-kinds
 use Rattle.pairs.proofs.malformed.Reads as malformed-reads
 use Rattle.pairs.proofs.first.Kinds as first-kinds
 use Rattle.pairs.proofs.first.Reads as first-reads
+use Rattle.pairs.proofs.reason.Kinds as reason-kinds
+use Rattle.pairs.proofs.reason.Reads as reason-reads
 use Rattle.pairs.proofs.rows.Kinds as rows-kinds
 use Rattle.pairs.proofs.rows.Reads as rows-reads
 use Rattle.pairs.proofs.is_held_lead.Kinds as is-held-lead-kinds
@@ -33,6 +35,9 @@ malformed = record { total = λ κs a. tt; one = λ κs a z z′ w w′ p q. (sa
 
 pub first : Determined 0 first-kinds.ps first-kinds.r first-reads.Asked first-reads.Learnt
 first = record { total = λ κs a. tt; one = λ κs a z z′ w w′ p q. (same p q, refl) }
+
+pub reason : Determined 0 reason-kinds.ps reason-kinds.r reason-reads.Asked reason-reads.Learnt
+reason = record { total = λ κs a. tt; one = λ κs a z z′ w w′ p q. (same p q, refl) }
 
 pub rows : Determined 0 rows-kinds.ps rows-kinds.r rows-reads.Asked rows-reads.Learnt
 rows = record { total = λ κs a. tt; one = λ κs a z z′ w w′ p q. (same p q, refl) }

@@ -1,8 +1,10 @@
 -- What Big5 and EUC-KR share: the leads, the held score, the leads that hold.
-use mathlib.Core.Bool.{Bool, _||_}
+use mathlib.Core.Bool.{Bool, cond, _||_}
 use Prim.Native.Nat.{ℕ, _≤_}
 use lib.Dec.{leb, eqb}
 use lib.IntN.{ℤ, pos, natAbs}
+use Rattle.laws.specs.declared.Reason.{Reason}
+use Rattle.laws.specs.declared.Reason.the-variants.{BadByte, BadSecondByte}
 use Rattle.octets.specs.Octets.{between, isProblematicLead}
 use Rattle.weights.specs.Weights.{term}
 use Rattle.pairs.specs.declared.Decoded.{Decoded}
@@ -19,6 +21,10 @@ isLeadOrNone lead = eqb lead 0 || isLead lead
 
 abbrev pub decoded : ℕ → Event → Decoded
 decoded lead event = record { lead = lead; event = event }
+
+-- why a byte drops a machine out, by the lead before it: with one pending the byte is the second of a pair, ASCII or not
+abbrev pub reasonBy : ℕ → Reason
+reasonBy lead = cond (eqb lead 0) BadByte BadSecondByte
 
 -- ---- a held score
 -- the previous bytes after which a score is held

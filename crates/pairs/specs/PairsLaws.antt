@@ -1,14 +1,18 @@
--- What a lead can be, what lead the handler leaves, and the test of a held score.
+-- What a lead can be, what lead the handler leaves, what a reason can be, and the test of a held score.
 use mathlib.Core.Path.{_≡_, refl}
 use mathlib.Core.Bool.{Bool, true, false, _||_, or-true}
+use mathlib.Core.Logic.{_⊎_, inl, inr}
 use Prim.Native.Nat.{ℕ, _≤_}
 use native.Mathlib.Omega.{arith}
 use lib.Dec.{eqb}
 use borrow.Author.Tests.{leb-true, le-leb, eqb-true, ne-eqb}
 use Rattle.laws.specs.Handler.{byte, Result, varsOf}
-use Rattle.laws.specs.Tests.{either}
+use Rattle.laws.specs.Run.{none}
+use Rattle.laws.specs.Tests.{either, picked}
+use Rattle.laws.specs.declared.Reason.{Reason}
+use Rattle.laws.specs.declared.Reason.the-variants.{BadByte, BadSecondByte}
 use Rattle.octets.specs.Octets.{ascii}
-use Rattle.pairs.specs.Pairs.{isLead, isLeadOrNone, SmallHeld, smallHeldB}
+use Rattle.pairs.specs.Pairs.{isLead, isLeadOrNone, reasonBy, SmallHeld, smallHeldB}
 use Rattle.pairs.specs.Standard.{CodePoints, null, one, two, Layout, first, returned, handler}
 use Rattle.pairs.specs.Ranges.{range-true}
 use Rattle.pairs.specs.declared.Held.{Held}
@@ -42,6 +46,13 @@ pub handler-lead : (e : Layout) (points : ℕ → CodePoints) (lead b : ℕ) →
 unfolding first varsOf
 handler-lead e points lead b =
     either Holds (eqb lead 0) (λ z. either Holds (ascii b) (λ a. refl) (λ a. either Holds (isLead b) (λ l. rw (l, or-true)) (λ l. refl))) (λ z. rw (returned-lead b _))
+
+-- ---- a reason
+abbrev pub OfPairs : Reason → Type 0
+OfPairs d = (d ≡ BadByte) ⊎ (d ≡ BadSecondByte)
+
+pub reason-either : (lead : ℕ) → OfPairs (reasonBy lead)
+reason-either lead = picked OfPairs (eqb lead 0) (inl refl) (inr refl)
 
 -- ---- a held score's test
 pub held-true : (h : Held) → smallHeldB h ≡ true → SmallHeld h

@@ -2,8 +2,9 @@
 ghost use mathlib.Core.Path.{_≡_};
 ghost use Prim.Native.Nat.{_-_};
 ghost use Rattle.octets.specs.Octets.{letter};
-ghost use Rattle.pairs.specs.Pairs.{isLead, isLeadOrNone, isHeldLead, releasedOf, smallHeldB};
+ghost use Rattle.pairs.specs.Pairs.{isLead, isLeadOrNone, isHeldLead, reasonBy, releasedOf, smallHeldB};
 ghost use Rattle.pairs.specs.Events.{malformedOf, firstOf};
+use laws::Reason;
 
 // What a decoder yields at a byte: nothing yet, one code point, two, or an error of so many bytes.
 pub enum Event {
@@ -81,6 +82,16 @@ pub fn first(b: u8) -> Decoded
         lead: 0,
         event: Event::Error(1),
     }
+}
+
+// Why a byte drops a machine out, by the decoder's lead before it.
+pub fn reason(lead: u8) -> Reason
+    ensures { λ r. ⌜ r ≡ reasonBy lead ⌝ }
+{
+    if lead != 0 {
+        return Reason::BadSecondByte;
+    }
+    Reason::BadByte
 }
 
 // The rows of an index before a lead's own: 81 has the first.

@@ -2,11 +2,12 @@
 -- state in order it is what `feedAll` says (FedLaws).
 use mathlib.Core.Bool.{Bool, true, false, cond}
 use mathlib.Core.List.{List, [], _∷_}
-use Prim.Native.Nat.{ℕ, suc, _*_, _≤_}
+use Prim.Native.Nat.{ℕ, suc, _+_, _-_, _*_, _%_, _^_, _≤_}
 use lib.Dec.{ltb}
 use lib.IntN.{ℤ}
 use lib.ListN.{length, getD}
 use Rattle.laws.specs.Each.{EachFrom}
+use Rattle.laws.specs.declared.Reason.the-variants.{NotInSlate}
 use Rattle.signed.specs.Sum.{sumOf}
 use Rattle.single.specs.Class.{space}
 use Rattle.weights.specs.Weights.{perByte}
@@ -40,46 +41,50 @@ abbrev pub freshAt : ℕ → Machine
 freshAt k = getD freshes k (Utf8 utf-8.fresh)
 
 -- the sum, in the 64 bits of a score; or none, and the fresh machine
-unfoldable pub settledOf : Machine → ℤ → Ran → Place
-settledOf fresh s (ran.Live n g) = place n (Live (sumOf s g))
-settledOf fresh s ran.Dropped = place fresh None
-settledOf fresh s ran.Unfit = place fresh None
+unfoldable pub settledOf : Machine → ℤ → ℕ → ℕ → Ran → Place
+settledOf fresh s body bytes (ran.Live n g) = place n (Live (sumOf s g))
+settledOf fresh s body bytes (ran.Dropped d at) = place fresh (None d (body - (bytes - at - 1)))
+settledOf fresh s body bytes ran.Unfit = place fresh (None NotInSlate 0)
 
 -- without a score nothing is asked
-unfoldable pub settledFrom : Machine → Ran → Score → Place
-settledFrom fresh r None = place fresh None
-settledFrom fresh r (Live s) = settledOf fresh s r
+unfoldable pub settledFrom : Machine → ℕ → ℕ → Ran → Score → Place
+settledFrom fresh body bytes r (None d at) = place fresh (None d at)
+settledFrom fresh body bytes r (Live s) = settledOf fresh s body bytes r
 
 -- a part of a chunk to place k
-abbrev pub fedAs : ℕ → Own → List ℕ → Place → Place
-fedAs k t xs p = settledFrom (freshAt k) (ranAt k t (p .machine) xs) (p .score)
+abbrev pub fedAs : ℕ → Own → ℕ → List ℕ → Place → Place
+fedAs k t body xs p = settledFrom (freshAt k) body (length xs) (ranAt k t (p .machine) xs) (p .score)
 
 -- the end of the stream to a decoder's place
-abbrev pub decoderEnded : Place → Place
-decoderEnded p = settledFrom (freshOf (p .machine)) (decodedEnd (p .machine)) (p .score)
+abbrev pub decoderEnded : ℕ → Place → Place
+decoderEnded body p = settledFrom (freshOf (p .machine)) body 0 (decodedEnd (p .machine)) (p .score)
+
+-- a byte more, in the 64 bits of a count
+abbrev pub past : ℕ → ℕ
+past body = (body + 1) % 2 ^ 64
 
 -- to place k: the first four are decoders', and to the others it is a space
-abbrev pub endedAs : ℕ → Own → Place → Place
-endedAs k t p = cond (ltb k 4) (decoderEnded p) (fedAs k t (space ∷ []) p)
+abbrev pub endedAs : ℕ → Own → ℕ → Place → Place
+endedAs k t body p = cond (ltb k 4) (decoderEnded body p) (fedAs k t (past body) (space ∷ []) p)
 
 -- ---- all places, each over its own tables, the first one's number being k
-unfoldable pub fedEachFrom : Tables → List ℕ → ℕ → List Place → List Place
-fedEachFrom t xs k [] = []
-fedEachFrom t xs k (p ∷ ps) = fedAs k (ownOf t k) xs p ∷ fedEachFrom t xs (suc k) ps
+unfoldable pub fedEachFrom : Tables → ℕ → List ℕ → ℕ → List Place → List Place
+fedEachFrom t body xs k [] = []
+fedEachFrom t body xs k (p ∷ ps) = fedAs k (ownOf t k) body xs p ∷ fedEachFrom t body xs (suc k) ps
 
-abbrev pub fedEach : Tables → List ℕ → List Place → List Place
-fedEach t xs ps = fedEachFrom t xs 0 ps
+abbrev pub fedEach : Tables → ℕ → List ℕ → List Place → List Place
+fedEach t body xs ps = fedEachFrom t body xs 0 ps
 
-unfoldable pub endedEachFrom : Tables → ℕ → List Place → List Place
-endedEachFrom t k [] = []
-endedEachFrom t k (p ∷ ps) = endedAs k (ownOf t k) p ∷ endedEachFrom t (suc k) ps
+unfoldable pub endedEachFrom : Tables → ℕ → ℕ → List Place → List Place
+endedEachFrom t body k [] = []
+endedEachFrom t body k (p ∷ ps) = endedAs k (ownOf t k) body p ∷ endedEachFrom t body (suc k) ps
 
-abbrev pub endedEach : Tables → List Place → List Place
-endedEach t ps = endedEachFrom t 0 ps
+abbrev pub endedEach : Tables → ℕ → List Place → List Place
+endedEach t body ps = endedEachFrom t body 0 ps
 
 -- a part, which is the last one or not
-abbrev pub slateFed : Tables → Bool → List ℕ → List Place → List Place
-slateFed t last xs ps = cond last (endedEach t (fedEach t xs ps)) (fedEach t xs ps)
+abbrev pub slateFed : Tables → Bool → ℕ → List ℕ → List Place → List Place
+slateFed t last body xs ps = cond last (endedEach t body (fedEach t body xs ps)) (fedEach t body xs ps)
 
 -- ---- what the code knows of the answers besides: by how much a score can change, and that the weights have 32 bits
 pub record KnownRan (k : ℕ) (t : Own) (xs : List ℕ) (m : Machine) : Type 0 where
@@ -87,7 +92,7 @@ pub record KnownRan (k : ℕ) (t : Own) (xs : List ℕ) (m : Machine) : Type 0 w
   pub weighed : Weighed m (t .weights) (ranAt k t m xs)
 
 abbrev pub KnownFrom : ℕ → Own → List ℕ → Machine → Score → Type 0
-KnownFrom k t xs m None = Unit {0}
+KnownFrom k t xs m (None d at) = Unit {0}
 KnownFrom k t xs m (Live s) = KnownRan k t xs m
 
 abbrev pub KnownFed : ℕ → Own → List ℕ → Place → Type 0
@@ -103,6 +108,6 @@ KnownEnd k t p = 4 ≤ k → KnownFed k t (space ∷ []) p
 abbrev pub EndKnown : Tables → List Place → Type 0
 EndKnown t ps = EachFrom (λ (k : ℕ) (p : Place). KnownEnd k (ownOf t k) p) 0 ps
 
-abbrev pub SlateKnown : Tables → Bool → List ℕ → List Place → Type 0
-SlateKnown t true xs ps = AllKnown t xs ps × EndKnown t (fedEach t xs ps)
-SlateKnown t false xs ps = AllKnown t xs ps
+abbrev pub SlateKnown : Tables → Bool → ℕ → List ℕ → List Place → Type 0
+SlateKnown t true body xs ps = AllKnown t xs ps × EndKnown t (fedEach t body xs ps)
+SlateKnown t false body xs ps = AllKnown t xs ps

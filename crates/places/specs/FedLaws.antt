@@ -2,7 +2,7 @@
 use mathlib.Core.Path.{_≡_, refl, sym, ap, subst, _∙_}
 use mathlib.Core.Bool.{Bool, true, false, cond}
 use mathlib.Core.List.{List, [], _∷_}
-use Prim.Native.Nat.{ℕ, suc, _+_, _*_, _^_, _<_, _≤_}
+use Prim.Native.Nat.{ℕ, suc, _+_, _-_, _*_, _^_, _<_, _≤_}
 use native.Mathlib.Nat.{mul-le-mul-left}
 use native.Mathlib.Omega.{arith}
 use lib.Dec.{eqb, ltb}
@@ -11,7 +11,9 @@ use lib.ListN.{length}
 use borrow.Author.Tests.{eq-eqb, ltb-true, ltb-false}
 use Rattle.laws.specs.Each.{EachFrom}
 use Rattle.laws.specs.Limit.{limit}
-use Rattle.laws.specs.Run.{Outcome, live, plus, run, run-one}
+use Rattle.laws.specs.Run.{live, plus, run, run-one, ends-one}
+use Rattle.laws.specs.declared.Reason.{Reason}
+use Rattle.laws.specs.declared.Reason.the-variants.{NotInSlate}
 use Rattle.signed.specs.Sum.{sumOf}
 use Rattle.single.specs.Class.{space}
 use Rattle.weights.specs.Weights.{perByte}
@@ -27,15 +29,15 @@ use Rattle.kinds.specs.declared.machine.Machine.{Machine}
 use Rattle.kinds.specs.declared.machine.Machine.the-variants.{Utf8, Iso2022Jp, EucKr, Big5, Caseless, Logical, Visual, ArabicFrench}
 use Rattle.kinds.specs.declared.machine.Ran.{Ran}
 use Rattle.kinds.specs.declared.machine.Ran.the-variants as ran
-use Rattle.places.specs.Fed.{freshAt, settledOf, settledFrom, fedAs, decoderEnded, endedAs, fedEachFrom, fedEach, endedEachFrom, endedEach, slateFed, KnownRan, KnownFrom, KnownFed, AllKnown, KnownEnd, EndKnown, SlateKnown}
+use Rattle.places.specs.Fed.{freshAt, past, settledOf, settledFrom, fedAs, decoderEnded, endedAs, fedEachFrom, fedEach, endedEachFrom, endedEach, slateFed, KnownRan, KnownFrom, KnownFed, AllKnown, KnownEnd, EndKnown, SlateKnown}
 use Rattle.places.specs.Kept.{Kept, Ended, AllKept}
 use Rattle.places.specs.Order.{ScoredFor, PlaceFor, SlateFor}
 use Rattle.places.specs.OrderLaws.{BoundedOut, KnownRun, bounded-more, decoder-end, end-for}
-use Rattle.places.specs.Place.{place, placeAs, feedOf}
-use Rattle.places.specs.PlaceLaws.{feed-none, feed-open, feed-last, end-none, end-live, bounded-out, settled-as, fed-way, kept-none, kept-open, kept-last, ended-none}
+use Rattle.places.specs.Place.{place, placeAs, endAt, endOf, feedOf}
+use Rattle.places.specs.PlaceLaws.{feed-none, feed-open, end-none, end-live, bounded-out, settled-as, fed-way, kept-none, kept-open, kept-last, ended-none}
 use Rattle.places.specs.Slate.{feedFrom, feedAll}
 use Rattle.places.specs.SlateLaws.{joined, listed, eight, slate-more}
-use Rattle.places.specs.Steps.{endOf, BoundedScore, FitPart}
+use Rattle.places.specs.Steps.{BoundedScore, FitPart}
 use Rattle.places.specs.declared.place.Place.{Place}
 use Rattle.places.specs.declared.place.Score.{Score}
 use Rattle.places.specs.declared.place.Score.the-variants.{None, Live}
@@ -87,15 +89,36 @@ module _ (t : Own) where
   space-closed (Visual m) h = refl
   space-closed (ArabicFrench m) h = refl
 
--- ---- a place in order, over tables of its own lengths
-score-bounded : (n : ℕ) (m : Machine) (c : Score) → n ≤ limit → ScoredFor n m c → BoundedScore (perByte * limit) c
-score-bounded n m None h q = tt
-score-bounded n m (Live s) h q = let e : perByte * n ≤ perByte * limit = mul-le-mul-left perByte h in omega (arith, q)
+-- the end's place, by what the answer says: no byte of an empty part, or the space
+decoder-at : (b : ℕ) (m : Machine) → placeNumber m < 4 → b - (0 - 0 - 1) ≡ endAt m b
+decoder-at b (Utf8 m) h = omega arith
+decoder-at b (Iso2022Jp m) h = omega arith
+decoder-at b (EucKr m) h = omega arith
+decoder-at b (Big5 m) h = omega arith
+decoder-at b (Caseless m) h = absurd (omega (arith, h))
+decoder-at b (Logical m) h = absurd (omega (arith, h))
+decoder-at b (Visual m) h = absurd (omega (arith, h))
+decoder-at b (ArabicFrench m) h = absurd (omega (arith, h))
 
-module _ (k : ℕ) (t : Own) (sized : SizedAt k t) (n : ℕ) (p : Place) (o : PlaceFor n false true k p) where
-  blank : p .score ≡ None → place (freshAt k) None ≡ p
-  blank e =
-      let f : p .machine ≡ freshOf (p .machine) = rw (reach-open (p .machine) n, e) at (o .scored) in
+single-at : (b : ℕ) (m : Machine) → 4 ≤ placeNumber m → b ≤ limit → past b - (1 - 0 - 1) ≡ endAt m b
+single-at b (Utf8 m) h l = absurd (omega (arith, h))
+single-at b (Iso2022Jp m) h l = absurd (omega (arith, h))
+single-at b (EucKr m) h l = absurd (omega (arith, h))
+single-at b (Big5 m) h l = absurd (omega (arith, h))
+single-at b (Caseless m) h l = omega arith
+single-at b (Logical m) h l = omega arith
+single-at b (Visual m) h l = omega arith
+single-at b (ArabicFrench m) h l = omega arith
+
+-- ---- a place in order, over tables of its own lengths
+score-bounded : (n b k : ℕ) (m : Machine) (c : Score) → n ≤ limit → ScoredFor n b false true k m c → BoundedScore (perByte * limit) c
+score-bounded n b k m (None d at) h q = tt
+score-bounded n b k m (Live s) h q = let e : perByte * n ≤ perByte * limit = mul-le-mul-left perByte h in omega (arith, q)
+
+module _ (k : ℕ) (t : Own) (sized : SizedAt k t) (n b : ℕ) (p : Place) (o : PlaceFor n b false true k p) where
+  blank : (d : Reason) (at : ℕ) → p .score ≡ None d at → place (freshAt k) (None d at) ≡ p
+  blank d at e =
+      let f : p .machine ≡ freshOf (p .machine) = (rw e at (o .scored)) .0 in
       let g : freshAt k ≡ p .machine = sym (f ∙ (fresh-number (p .machine) ∙ ap freshAt (o .kind))) in
       rw (g, sym e)
 
@@ -110,7 +133,7 @@ module _ (k : ℕ) (t : Own) (sized : SizedAt k t) (n : ℕ) (p : Place) (o : Pl
       record {
         sized = own-lengths;
         sound = sound-limit (omega (arith, h));
-        small = score-bounded n (p .machine) (p .score) (omega (arith, h)) (rw (reach-open (p .machine) n) at (o .scored));
+        small = score-bounded n b k (p .machine) (p .score) (omega (arith, h)) (rw (reach-open (p .machine) n) at (o .scored));
         short = omega (arith, h);
       }
 
@@ -121,195 +144,198 @@ module _ (k : ℕ) (t : Own) (sized : SizedAt k t) (n : ℕ) (p : Place) (o : Pl
   fresh-own = sym (fresh-number (p .machine) ∙ ap freshAt (o .kind))
 
   -- ---- a part
-  module _ (xs : List ℕ) (short : n + length xs ≤ limit) where
-    fed-live : (z : ℤ) → p .score ≡ Live z → KnownRan k t xs (p .machine) → (settledOf (freshAt k) z (ranAt k t (p .machine) xs) ≡ feedOf t false xs p) × Kept t false xs p
+  module _ (body : ℕ) (xs : List ℕ) (short : n + length xs ≤ limit) where
+    fed-live : (z : ℤ) → p .score ≡ Live z → KnownRan k t xs (p .machine) → (settledOf (freshAt k) z body (length xs) (ranAt k t (p .machine) xs) ≡ feedOf t false body xs p) × Kept t false body xs p
     fed-live z e known =
-        let w = fed-way t xs p (fit xs short) z e (ranAt k t (p .machine) xs) (ran-own xs) (known .small) (known .weighed) in
-        (ap (λ (f : Machine). settledOf f z (ranAt k t (p .machine) xs)) fresh-own ∙ (w .0 ∙ feed-open t xs p z e), kept-open t xs p z e (w .1))
+        let w = fed-way t body xs p (fit xs short) z e (ranAt k t (p .machine) xs) (ran-own xs) (known .small) (known .weighed) in
+        (ap (λ (f : Machine). settledOf f z body (length xs) (ranAt k t (p .machine) xs)) fresh-own ∙ (w .0 ∙ feed-open t body xs p z e), kept-open t body xs p z e (w .1))
 
     -- of a live place the code knows the run
     run-known : (z : ℤ) → p .score ≡ Live z → KnownFed k t xs p → KnownRun t xs (p .machine)
     run-known z e known =
         let k′ : KnownRan k t xs (p .machine) = rw e at known in
-        fed-way t xs p (fit xs short) z e (ranAt k t (p .machine) xs) (ran-own xs) (k′ .small) (k′ .weighed) .1
+        fed-way t body xs p (fit xs short) z e (ranAt k t (p .machine) xs) (ran-own xs) (k′ .small) (k′ .weighed) .1
 
-    pub part-fed : KnownFed k t xs p → (fedAs k t xs p ≡ feedOf t false xs p) × Kept t false xs p
+    pub part-fed : KnownFed k t xs p → (fedAs k t body xs p ≡ feedOf t false body xs p) × Kept t false body xs p
     unfolding settledFrom
-    part-fed known = at (p .score) refl known
+    part-fed known = by (p .score) refl known
       where
-        at : (c : Score) → p .score ≡ c → KnownFrom k t xs (p .machine) c → (settledFrom (freshAt k) (ranAt k t (p .machine) xs) c ≡ feedOf t false xs p) × Kept t false xs p
-        at None e known = (blank e ∙ feed-none t xs p false e, kept-none t xs p false e)
-        at (Live z) e known = fed-live z e known
+        by : (c : Score) → p .score ≡ c → KnownFrom k t xs (p .machine) c → (settledFrom (freshAt k) body (length xs) (ranAt k t (p .machine) xs) c ≡ feedOf t false body xs p) × Kept t false body xs p
+        by (None d at) e known = (blank d at e ∙ feed-none t body xs p d at e false, kept-none t body xs p d at e false)
+        by (Live z) e known = fed-live z e known
 
   -- ---- the end of the stream
-  module _ (most : n ≤ limit) where
+  module _ (most : n ≤ limit) (few : b ≤ limit) where
     score-small : (z : ℤ) → p .score ≡ Live z → natAbs z + perByte < 2 ^ 63
     score-small z e =
         let h : natAbs z ≤ perByte * n = rw (reach-open (p .machine) n, e) at (o .scored) in
         let m : perByte * n ≤ perByte * limit = mul-le-mul-left perByte most in
         omega arith
 
-    end-live-as : (z : ℤ) → p .score ≡ Live z → (f : Machine) → f ≡ freshOf (p .machine) → (r : Ran) → r ≡ ranAs (closeOf t (p .machine)) → BoundedOut perByte (closeOf t (p .machine)) → (settledOf f z r ≡ endOf t p) × Ended t p
-    end-live-as z e f g r i h =
-        (ap (λ (x : Machine). settledOf x z r) g ∙ (ap (settledOf (freshOf (p .machine)) z) i ∙ (settled-as (p .machine) z (closeOf t (p .machine)) perByte h (score-small z e) ∙ end-live t p z e)), record { kept = λ (j i : ℕ) x. end-for t j i p h x })
+    -- an answer whose place is the end's
+    end-live-as : (z : ℤ) → p .score ≡ Live z → (f : Machine) → f ≡ freshOf (p .machine) → (r : Ran) (body bytes at : ℕ) → r ≡ ranAs at (closeOf t (p .machine)) → body - (bytes - at - 1) ≡ endAt (p .machine) b → BoundedOut perByte (closeOf t (p .machine)) → (settledOf f z body bytes r ≡ endOf t b p) × Ended t b p
+    end-live-as z e f g r body bytes at i q h =
+        let m = p .machine in
+        let c = closeOf t (p .machine) in
+        (ap (λ (x : Machine). settledOf x z body bytes r) g ∙ (ap (settledOf (freshOf m) z body bytes) i ∙ (settled-as m z body bytes at c perByte h (score-small z e) ∙ (ap (λ (j : ℕ). placeAs m j (plus z c)) q ∙ end-live t b p z e))), record { kept = λ (j i : ℕ) x. end-for t j b i p h x })
 
-    decoder-way : placeNumber (p .machine) < 4 → (decoderEnded p ≡ endOf t p) × Ended t p
+    decoder-way : placeNumber (p .machine) < 4 → (decoderEnded b p ≡ endOf t b p) × Ended t b p
     unfolding settledFrom
-    decoder-way l = at (p .score) refl
+    decoder-way l = by (p .score) refl
       where
-        at : (c : Score) → p .score ≡ c → (settledFrom (freshOf (p .machine)) (decodedEnd (p .machine)) c ≡ endOf t p) × Ended t p
-        at None e = (ap (λ (f : Machine). place f None) (sym fresh-own) ∙ (blank e ∙ end-none t p e), ended-none t p e)
-        at (Live z) e =
+        by : (c : Score) → p .score ≡ c → (settledFrom (freshOf (p .machine)) b 0 (decodedEnd (p .machine)) c ≡ endOf t b p) × Ended t b p
+        by (None d at) e = (ap (λ (f : Machine). place f (None d at)) (sym fresh-own) ∙ (blank d at e ∙ end-none t b p d at e), ended-none t b p d at e)
+        by (Live z) e =
             let m = p .machine in
             let s : SoundFor n n (p .machine) = rw (reach-open (p .machine) n) at (o .sound) in
             let c = closed-fit t m own-lengths (sound-more n (2 * limit) n (2 * limit) m (omega (arith, most)) (omega (arith, most)) s) in
-            end-live-as z e (freshOf m) refl (decodedEnd m) (decoder-closed t m l ∙ c) (bounded-more 0 perByte (closeOf t m) (omega arith) (decoder-end t n m l s))
+            end-live-as z e (freshOf m) refl (decodedEnd m) b 0 0 (decoder-closed t m l ∙ c) (decoder-at b m l) (bounded-more 0 perByte (closeOf t m) (omega arith) (decoder-end t n m l s))
 
     -- the answer to a space is the answer to the end
-    space-ran : 4 ≤ placeNumber (p .machine) → ranAt k t (p .machine) (space ∷ []) ≡ ranAs (closeOf t (p .machine))
+    space-ran : 4 ≤ placeNumber (p .machine) → ranAt k t (p .machine) (space ∷ []) ≡ ranAs 0 (closeOf t (p .machine))
     space-ran l =
         let m = p .machine in
-        ran-own (space ∷ []) ∙ (ran-fit t (space ∷ []) (omega arith) m own-lengths (sound-limit most) ∙ ap ranAs (run-one (stepOf t) m space ∙ space-closed t m l))
+        ran-own (space ∷ []) ∙ (ran-fit t (space ∷ []) (omega arith) m own-lengths (sound-limit most) ∙ (ap (λ (i : ℕ). ranAs (i - 1) (run (stepOf t) (live m (pos 0)) (space ∷ []))) (ends-one (stepOf t) m space) ∙ ap (ranAs 0) (run-one (stepOf t) m space ∙ space-closed t m l)))
 
-    single-way : 4 ≤ placeNumber (p .machine) → KnownFed k t (space ∷ []) p → (fedAs k t (space ∷ []) p ≡ endOf t p) × Ended t p
+    single-way : 4 ≤ placeNumber (p .machine) → KnownFed k t (space ∷ []) p → (fedAs k t (past b) (space ∷ []) p ≡ endOf t b p) × Ended t b p
     unfolding settledFrom
-    single-way l known = at (p .score) refl known
+    single-way l known = by (p .score) refl known
       where
-        at : (c : Score) → p .score ≡ c → KnownFrom k t (space ∷ []) (p .machine) c → (settledFrom (freshAt k) (ranAt k t (p .machine) (space ∷ [])) c ≡ endOf t p) × Ended t p
-        at None e known = (blank e ∙ end-none t p e, ended-none t p e)
-        at (Live z) e known =
+        by : (c : Score) → p .score ≡ c → KnownFrom k t (space ∷ []) (p .machine) c → (settledFrom (freshAt k) (past b) 1 (ranAt k t (p .machine) (space ∷ [])) c ≡ endOf t b p) × Ended t b p
+        by (None d at) e known = (blank d at e ∙ end-none t b p d at e, ended-none t b p d at e)
+        by (Live z) e known =
+            let m = p .machine in
             let h : Bounded perByte (ranAt k t (p .machine) (space ∷ [])) = known .small in
-            end-live-as z e (freshAt k) fresh-own (ranAt k t (p .machine) (space ∷ [])) (space-ran l) (bounded-out perByte (closeOf t (p .machine)) (rw (space-ran l) at h))
+            end-live-as z e (freshAt k) fresh-own (ranAt k t (p .machine) (space ∷ [])) (past b) 1 0 (space-ran l) (single-at b m l few) (bounded-out perByte 0 (closeOf t m) (rw (space-ran l) at h))
 
-    pub end-fed : KnownEnd k t p → (endedAs k t p ≡ endOf t p) × Ended t p
-    end-fed known = at (ltb k 4) refl
+    pub end-fed : KnownEnd k t p → (endedAs k t b p ≡ endOf t b p) × Ended t b p
+    end-fed known = by (ltb k 4) refl
       where
-        at : (b : Bool) → ltb k 4 ≡ b → (cond b (decoderEnded p) (fedAs k t (space ∷ []) p) ≡ endOf t p) × Ended t p
-        at true e = decoder-way (rw (o .kind) (ltb-true k 4 e))
-        at false e = single-way (rw (o .kind) (ltb-false k 4 e)) (known (ltb-false k 4 e))
+        by : (l : Bool) → ltb k 4 ≡ l → (cond l (decoderEnded b p) (fedAs k t (past b) (space ∷ []) p) ≡ endOf t b p) × Ended t b p
+        by true e = decoder-way (rw (o .kind) (ltb-true k 4 e))
+        by false e = single-way (rw (o .kind) (ltb-false k 4 e)) (known (ltb-false k 4 e))
 
 -- ---- a part that is the last one
-module _ (k : ℕ) (t : Own) (sized : SizedAt k t) (n : ℕ) (p : Place) (o : PlaceFor n false true k p) (xs : List ℕ) (short : n + length xs ≤ limit) where
-  pub last-fed : KnownFed k t xs p → KnownEnd k t (fedAs k t xs p) → (endedAs k t (fedAs k t xs p) ≡ feedOf t true xs p) × Kept t true xs p
-  last-fed known end = at (p .score) refl
+module _ (k : ℕ) (t : Own) (sized : SizedAt k t) (n b : ℕ) (p : Place) (o : PlaceFor n b false true k p) (body : ℕ) (more : b ≤ body) (few : body ≤ limit) (xs : List ℕ) (short : n + length xs ≤ limit) where
+  pub last-fed : KnownFed k t xs p → KnownEnd k t (fedAs k t body xs p) → (endedAs k t body (fedAs k t body xs p) ≡ feedOf t true body xs p) × Kept t true body xs p
+  last-fed known end = by (p .score) refl
     where
       -- what the part has left
-      part : (fedAs k t xs p ≡ feedOf t false xs p) × Kept t false xs p
-      part = part-fed k t sized n p o xs short known
+      part : (fedAs k t body xs p ≡ feedOf t false body xs p) × Kept t false body xs p
+      part = part-fed k t sized n b p o body xs short known
 
-      ended : (endedAs k t (feedOf t false xs p) ≡ endOf t (feedOf t false xs p)) × Ended t (feedOf t false xs p)
-      ended = end-fed k t sized (n + length xs) (feedOf t false xs p) (part .1 .kept n k short o) short (subst (KnownEnd k t) (part .0) end)
+      ended : (endedAs k t body (feedOf t false body xs p) ≡ endOf t body (feedOf t false body xs p)) × Ended t body (feedOf t false body xs p)
+      ended = end-fed k t sized (n + length xs) body (feedOf t false body xs p) (part .1 .kept n b k short more o) short few (subst (KnownEnd k t) (part .0) end)
 
-      at : (c : Score) → p .score ≡ c → (endedAs k t (fedAs k t xs p) ≡ feedOf t true xs p) × Kept t true xs p
-      at None e =
-          let q = feed-none t xs p false e in
-          (ap (endedAs k t) (part .0) ∙ (ended .0 ∙ (ap (endOf t) (sym q) ∙ (sym (end-none t p e) ∙ feed-none t xs p true e))), kept-none t xs p true e)
-      at (Live z) e =
-          let q = feed-open t xs p z e in
-          (ap (endedAs k t) (part .0) ∙ (ended .0 ∙ (ap (endOf t) (sym q) ∙ feed-last t xs p z e)), kept-last t xs p z e (run-known k t sized n p o xs short z e known) (subst (Ended t) (sym q) (ended .1)))
+      by : (c : Score) → p .score ≡ c → (endedAs k t body (fedAs k t body xs p) ≡ feedOf t true body xs p) × Kept t true body xs p
+      by (None d at) e = (ap (endedAs k t body) (part .0) ∙ ended .0, kept-none t body xs p d at e true)
+      by (Live z) e =
+          let q = feed-open t body xs p z e in
+          (ap (endedAs k t body) (part .0) ∙ ended .0, kept-last t body xs p z e (run-known k t sized n b p o body xs short z e known) (subst (Ended t body) (sym q) (ended .1)))
 
 -- ---- all places
-module _ (t : Tables) (z : Sized t) (n : ℕ) (xs : List ℕ) (short : n + length xs ≤ limit) where
-  sized-at : (k : ℕ) (p : Place) → PlaceFor n false true k p → SizedAt k (ownOf t k)
+module _ (t : Tables) (z : Sized t) (n b : ℕ) (body : ℕ) (more : b ≤ body) (few : body ≤ limit) (xs : List ℕ) (short : n + length xs ≤ limit) where
+  sized-at : (k : ℕ) (p : Place) → PlaceFor n b false true k p → SizedAt k (ownOf t k)
   sized-at k p o = own-sized t z k (rw (o .kind) at (below-eight (p .machine)))
 
-  each-part : (k : ℕ) (ps : List Place) → EachFrom (PlaceFor n false true) k ps → EachFrom (λ (j : ℕ) (p : Place). KnownFed j (ownOf t j) xs p) k ps → (fedEachFrom t xs k ps ≡ feedFrom t false xs k ps) × EachFrom (λ (j : ℕ) (p : Place). Kept (ownOf t j) false xs p) k ps
+  each-part : (k : ℕ) (ps : List Place) → EachFrom (PlaceFor n b false true) k ps → EachFrom (λ (j : ℕ) (p : Place). KnownFed j (ownOf t j) xs p) k ps → (fedEachFrom t body xs k ps ≡ feedFrom t false body xs k ps) × EachFrom (λ (j : ℕ) (p : Place). Kept (ownOf t j) false body xs p) k ps
   unfolding fedEachFrom feedFrom
   each-part k [] o f = (refl, tt)
   each-part k (p ∷ ps) o f =
-      let a = part-fed k (ownOf t k) (sized-at k p (o .0)) n p (o .0) xs short (f .0) in
-      let b = each-part (suc k) ps (o .1) (f .1) in
-      (joined (a .0) (b .0), (a .1, b .1))
+      let a = part-fed k (ownOf t k) (sized-at k p (o .0)) n b p (o .0) body xs short (f .0) in
+      let c = each-part (suc k) ps (o .1) (f .1) in
+      (joined (a .0) (c .0), (a .1, c .1))
 
-  each-last : (k : ℕ) (ps : List Place) → EachFrom (PlaceFor n false true) k ps → EachFrom (λ (j : ℕ) (p : Place). KnownFed j (ownOf t j) xs p) k ps → EachFrom (λ (j : ℕ) (p : Place). KnownEnd j (ownOf t j) p) k (fedEachFrom t xs k ps) → (endedEachFrom t k (fedEachFrom t xs k ps) ≡ feedFrom t true xs k ps) × EachFrom (λ (j : ℕ) (p : Place). Kept (ownOf t j) true xs p) k ps
+  each-last : (k : ℕ) (ps : List Place) → EachFrom (PlaceFor n b false true) k ps → EachFrom (λ (j : ℕ) (p : Place). KnownFed j (ownOf t j) xs p) k ps → EachFrom (λ (j : ℕ) (p : Place). KnownEnd j (ownOf t j) p) k (fedEachFrom t body xs k ps) → (endedEachFrom t body k (fedEachFrom t body xs k ps) ≡ feedFrom t true body xs k ps) × EachFrom (λ (j : ℕ) (p : Place). Kept (ownOf t j) true body xs p) k ps
   unfolding fedEachFrom endedEachFrom feedFrom
   each-last k [] o f e = (refl, tt)
   each-last k (p ∷ ps) o f e =
-      let a = last-fed k (ownOf t k) (sized-at k p (o .0)) n p (o .0) xs short (f .0) (e .0) in
-      let b = each-last (suc k) ps (o .1) (f .1) (e .1) in
-      (joined (a .0) (b .0), (a .1, b .1))
+      let a = last-fed k (ownOf t k) (sized-at k p (o .0)) n b p (o .0) body more few xs short (f .0) (e .0) in
+      let c = each-last (suc k) ps (o .1) (f .1) (e .1) in
+      (joined (a .0) (c .0), (a .1, c .1))
 
-  pub slate-fed : (last fed : Bool) (ps : List Place) → SlateFor n false fed ps → SlateKnown t last xs ps → (slateFed t last xs ps ≡ feedAll t last xs ps) × AllKept t last xs ps
-  slate-fed true fed ps o f = each-last 0 ps (slate-more n n fed ps (omega arith) (o .most) o .each) (f .0) (f .1)
-  slate-fed false fed ps o f = each-part 0 ps (slate-more n n fed ps (omega arith) (o .most) o .each) f
+  pub slate-fed : (last fed : Bool) (ps : List Place) → SlateFor n b false fed ps → SlateKnown t last body xs ps → (slateFed t last body xs ps ≡ feedAll t last body xs ps) × AllKept t last body xs ps
+  slate-fed true fed ps o f = each-last 0 ps (slate-more n n b b fed ps (omega arith) (omega arith) (o .most) o .each) (f .0) (f .1)
+  slate-fed false fed ps o f = each-part 0 ps (slate-more n n b b fed ps (omega arith) (omega arith) (o .most) o .each) f
 
 -- ---- each way through the code of one place
-module _ (f : Machine) (s : ℤ) (r : Ran) where
-  pub settled-live : (m : Machine) (g z : ℤ) → r ≡ ran.Live m g → z ≡ sumOf s g → place m (Live z) ≡ settledOf f s r
+module _ (f : Machine) (s : ℤ) (body bytes : ℕ) (r : Ran) where
+  pub settled-live : (m : Machine) (g z : ℤ) → r ≡ ran.Live m g → z ≡ sumOf s g → place m (Live z) ≡ settledOf f s body bytes r
   unfolding settledOf
   settled-live m g z e q = rw (e, q)
 
-  pub settled-dropped : r ≡ ran.Dropped → place f None ≡ settledOf f s r
+  pub settled-dropped : (d : Reason) (at i : ℕ) → r ≡ ran.Dropped d at → i ≡ body - (bytes - at - 1) → place f (None d i) ≡ settledOf f s body bytes r
   unfolding settledOf
-  settled-dropped e = rw e
+  settled-dropped d at i e q = rw (e, q)
 
-  pub settled-unfit : r ≡ ran.Unfit → place f None ≡ settledOf f s r
+  pub settled-unfit : r ≡ ran.Unfit → place f (None NotInSlate 0) ≡ settledOf f s body bytes r
   unfolding settledOf
   settled-unfit e = rw e
 
-module _ (k : ℕ) (t : Own) (xs : List ℕ) (p : Place) (f : Machine) (fresh : f ≡ freshAt k) where
-  pub way-none : p .score ≡ None → (place f None ≡ fedAs k t xs p) × KnownFed k t xs p
+module _ (k : ℕ) (t : Own) (body : ℕ) (xs : List ℕ) (p : Place) (f : Machine) (fresh : f ≡ freshAt k) where
+  pub way-none : (d : Reason) (at : ℕ) → p .score ≡ None d at → (place f (p .score) ≡ fedAs k t body xs p) × KnownFed k t xs p
   unfolding settledFrom
-  way-none e = rw (e, fresh) (refl, tt)
+  way-none d at e = rw (e, fresh) (refl, tt)
 
-  pub way-live : (z : ℤ) → p .score ≡ Live z → (r : Ran) (q : Place) → r ≡ ranAt k t (p .machine) xs → Bounded (perByte * length xs) r → Weighed (p .machine) (t .weights) r → q ≡ settledOf f z r → (q ≡ fedAs k t xs p) × KnownFed k t xs p
+  pub way-live : (z : ℤ) → p .score ≡ Live z → (r : Ran) (q : Place) → r ≡ ranAt k t (p .machine) xs → Bounded (perByte * length xs) r → Weighed (p .machine) (t .weights) r → q ≡ settledOf f z body (length xs) r → (q ≡ fedAs k t body xs p) × KnownFed k t xs p
   unfolding settledFrom
   way-live z e r q a h v i =
-      rw e (i ∙ (ap (λ (x : Machine). settledOf x z r) fresh ∙ ap (settledOf (freshAt k) z) a), record { small = rw a at h; weighed = rw a at v })
+      rw e (i ∙ (ap (λ (x : Machine). settledOf x z body (length xs) r) fresh ∙ ap (settledOf (freshAt k) z body (length xs)) a), record { small = rw a at h; weighed = rw a at v })
 
-module _ (p : Place) (f : Machine) (fresh : f ≡ freshOf (p .machine)) where
-  pub end-way-none : p .score ≡ None → place f None ≡ decoderEnded p
+module _ (body : ℕ) (p : Place) (f : Machine) (fresh : f ≡ freshOf (p .machine)) where
+  pub end-way-none : (d : Reason) (at : ℕ) → p .score ≡ None d at → place f (p .score) ≡ decoderEnded body p
   unfolding settledFrom
-  end-way-none e = rw (e, fresh)
+  end-way-none d at e = rw (e, fresh)
 
-  pub end-way-live : (z : ℤ) → p .score ≡ Live z → (r : Ran) (q : Place) → r ≡ decodedEnd (p .machine) → q ≡ settledOf f z r → q ≡ decoderEnded p
+  pub end-way-live : (z : ℤ) → p .score ≡ Live z → (r : Ran) (q : Place) → r ≡ decodedEnd (p .machine) → q ≡ settledOf f z body 0 r → q ≡ decoderEnded body p
   unfolding settledFrom
-  end-way-live z e r q a i = rw e (i ∙ (ap (λ (x : Machine). settledOf x z r) fresh ∙ ap (settledOf (freshOf (p .machine)) z) a))
+  end-way-live z e r q a i = rw e (i ∙ (ap (λ (x : Machine). settledOf x z body 0 r) fresh ∙ ap (settledOf (freshOf (p .machine)) z body 0) a))
 
 -- ---- all places, as the code has fed them one by one
-abbrev FedPairs : Tables → List ℕ → ℕ → List Place → List Place → Type 0
-FedPairs t xs k [] [] = Unit {0}
-FedPairs t xs k [] (q ∷ qs) = ⊥
-FedPairs t xs k (p ∷ ps) [] = ⊥
-FedPairs t xs k (p ∷ ps) (q ∷ qs) = ((q ≡ fedAs k (ownOf t k) xs p) × KnownFed k (ownOf t k) xs p) × FedPairs t xs (suc k) ps qs
+abbrev FedPairs : Tables → ℕ → List ℕ → ℕ → List Place → List Place → Type 0
+FedPairs t body xs k [] [] = Unit {0}
+FedPairs t body xs k [] (q ∷ qs) = ⊥
+FedPairs t body xs k (p ∷ ps) [] = ⊥
+FedPairs t body xs k (p ∷ ps) (q ∷ qs) = ((q ≡ fedAs k (ownOf t k) body xs p) × KnownFed k (ownOf t k) xs p) × FedPairs t body xs (suc k) ps qs
 
-fed-pairs : (t : Tables) (xs : List ℕ) (k : ℕ) (ps qs : List Place) → FedPairs t xs k ps qs → (qs ≡ fedEachFrom t xs k ps) × EachFrom (λ (j : ℕ) (p : Place). KnownFed j (ownOf t j) xs p) k ps
+fed-pairs : (t : Tables) (body : ℕ) (xs : List ℕ) (k : ℕ) (ps qs : List Place) → FedPairs t body xs k ps qs → (qs ≡ fedEachFrom t body xs k ps) × EachFrom (λ (j : ℕ) (p : Place). KnownFed j (ownOf t j) xs p) k ps
 unfolding fedEachFrom
-fed-pairs t xs k [] [] f = (refl, tt)
-fed-pairs t xs k [] (q ∷ qs) f = absurd f
-fed-pairs t xs k (p ∷ ps) [] f = absurd f
-fed-pairs t xs k (p ∷ ps) (q ∷ qs) f = let r = fed-pairs t xs (suc k) ps qs (f .1) in (joined (f .0 .0) (r .0), (f .0 .1, r .1))
+fed-pairs t body xs k [] [] f = (refl, tt)
+fed-pairs t body xs k [] (q ∷ qs) f = absurd f
+fed-pairs t body xs k (p ∷ ps) [] f = absurd f
+fed-pairs t body xs k (p ∷ ps) (q ∷ qs) f = let r = fed-pairs t body xs (suc k) ps qs (f .1) in (joined (f .0 .0) (r .0), (f .0 .1, r .1))
 
-abbrev EndPairs : Tables → ℕ → List Place → List Place → Type 0
-EndPairs t k [] [] = Unit {0}
-EndPairs t k [] (q ∷ qs) = ⊥
-EndPairs t k (p ∷ ps) [] = ⊥
-EndPairs t k (p ∷ ps) (q ∷ qs) = ((q ≡ endedAs k (ownOf t k) p) × KnownEnd k (ownOf t k) p) × EndPairs t (suc k) ps qs
+abbrev EndPairs : Tables → ℕ → ℕ → List Place → List Place → Type 0
+EndPairs t body k [] [] = Unit {0}
+EndPairs t body k [] (q ∷ qs) = ⊥
+EndPairs t body k (p ∷ ps) [] = ⊥
+EndPairs t body k (p ∷ ps) (q ∷ qs) = ((q ≡ endedAs k (ownOf t k) body p) × KnownEnd k (ownOf t k) p) × EndPairs t body (suc k) ps qs
 
-end-pairs : (t : Tables) (k : ℕ) (ps qs : List Place) → EndPairs t k ps qs → (qs ≡ endedEachFrom t k ps) × EachFrom (λ (j : ℕ) (p : Place). KnownEnd j (ownOf t j) p) k ps
+end-pairs : (t : Tables) (body k : ℕ) (ps qs : List Place) → EndPairs t body k ps qs → (qs ≡ endedEachFrom t body k ps) × EachFrom (λ (j : ℕ) (p : Place). KnownEnd j (ownOf t j) p) k ps
 unfolding endedEachFrom
-end-pairs t k [] [] f = (refl, tt)
-end-pairs t k [] (q ∷ qs) f = absurd f
-end-pairs t k (p ∷ ps) [] f = absurd f
-end-pairs t k (p ∷ ps) (q ∷ qs) f = let r = end-pairs t (suc k) ps qs (f .1) in (joined (f .0 .0) (r .0), (f .0 .1, r .1))
+end-pairs t body k [] [] f = (refl, tt)
+end-pairs t body k [] (q ∷ qs) f = absurd f
+end-pairs t body k (p ∷ ps) [] f = absurd f
+end-pairs t body k (p ∷ ps) (q ∷ qs) f = let r = end-pairs t body (suc k) ps qs (f .1) in (joined (f .0 .0) (r .0), (f .0 .1, r .1))
 
-module _ (t : Tables) (ps : List Place) (d : Place) (e : length ps ≡ 8) where
-  pub fed-eight : (xs : List ℕ) (qs : List Place) → FedPairs t xs 0 (listed ps d) qs → (qs ≡ fedEach t xs ps) × AllKnown t xs ps
-  fed-eight xs qs f = subst (λ (l : List Place). (qs ≡ fedEach t xs l) × AllKnown t xs l) (sym (eight ps d e)) (fed-pairs t xs 0 (listed ps d) qs f)
+module _ (t : Tables) (body : ℕ) (ps : List Place) (d : Place) (e : length ps ≡ 8) where
+  pub fed-eight : (xs : List ℕ) (qs : List Place) → FedPairs t body xs 0 (listed ps d) qs → (qs ≡ fedEach t body xs ps) × AllKnown t xs ps
+  fed-eight xs qs f = subst (λ (l : List Place). (qs ≡ fedEach t body xs l) × AllKnown t xs l) (sym (eight ps d e)) (fed-pairs t body xs 0 (listed ps d) qs f)
 
-  pub fed-twice : (xs ys : List ℕ) (qs rs : List Place) → FedPairs t xs 0 (listed ps d) qs → FedPairs t ys 0 qs rs → (rs ≡ fedEach t ys (fedEach t xs ps)) × (AllKnown t xs ps × AllKnown t ys (fedEach t xs ps))
-  fed-twice xs ys qs rs f g =
-      let a = fed-eight xs qs f in
-      let b : (rs ≡ fedEach t ys (fedEach t xs ps)) × AllKnown t ys (fedEach t xs ps) = subst (λ (l : List Place). (rs ≡ fedEach t ys l) × AllKnown t ys l) (a .0) (fed-pairs t ys 0 qs rs g) in
-      (b .0, (a .1, b .1))
+  pub end-eight : (qs : List Place) → EndPairs t body 0 (listed ps d) qs → (qs ≡ endedEach t body ps) × EndKnown t ps
+  end-eight qs f = subst (λ (l : List Place). (qs ≡ endedEach t body l) × EndKnown t l) (sym (eight ps d e)) (end-pairs t body 0 (listed ps d) qs f)
 
-  pub end-eight : (qs : List Place) → EndPairs t 0 (listed ps d) qs → (qs ≡ endedEach t ps) × EndKnown t ps
-  end-eight qs f = subst (λ (l : List Place). (qs ≡ endedEach t l) × EndKnown t l) (sym (eight ps d e)) (end-pairs t 0 (listed ps d) qs f)
+-- the bytes of the head, and then a part
+pub fed-twice : (t : Tables) (body : ℕ) (ps : List Place) (d : Place) → length ps ≡ 8 → (xs ys : List ℕ) (qs rs : List Place) → FedPairs t 0 xs 0 (listed ps d) qs → FedPairs t body ys 0 qs rs → (rs ≡ fedEach t body ys (fedEach t 0 xs ps)) × (AllKnown t xs ps × AllKnown t ys (fedEach t 0 xs ps))
+fed-twice t body ps d e xs ys qs rs f g =
+    let a = fed-eight t 0 ps d e xs qs f in
+    let b : (rs ≡ fedEach t body ys (fedEach t 0 xs ps)) × AllKnown t ys (fedEach t 0 xs ps) = subst (λ (l : List Place). (rs ≡ fedEach t body ys l) × AllKnown t ys l) (a .0) (fed-pairs t body ys 0 qs rs g) in
+    (b .0, (a .1, b .1))
 
 -- ---- the last part or not
-module _ (t : Tables) (last : Bool) (xs : List ℕ) (ps : List Place) where
-  pub slate-last : last ≡ true → (r : List Place) → r ≡ endedEach t (fedEach t xs ps) → AllKnown t xs ps → EndKnown t (fedEach t xs ps) → (r ≡ slateFed t last xs ps) × SlateKnown t last xs ps
+module _ (t : Tables) (last : Bool) (body : ℕ) (xs : List ℕ) (ps : List Place) where
+  pub slate-last : last ≡ true → (r : List Place) → r ≡ endedEach t body (fedEach t body xs ps) → AllKnown t xs ps → EndKnown t (fedEach t body xs ps) → (r ≡ slateFed t last body xs ps) × SlateKnown t last body xs ps
   slate-last l r e f g = rw l (e, (f, g))
 
-  pub slate-open : last ≡ false → (r : List Place) → r ≡ fedEach t xs ps → AllKnown t xs ps → (r ≡ slateFed t last xs ps) × SlateKnown t last xs ps
+  pub slate-open : last ≡ false → (r : List Place) → r ≡ fedEach t body xs ps → AllKnown t xs ps → (r ≡ slateFed t last body xs ps) × SlateKnown t last body xs ps
   slate-open l r e f = rw l (e, f)

@@ -1,12 +1,15 @@
--- Which places a state in order can hold: after n bytes, the stream closed or not, the places fed already or not.
+-- Which places a state in order can hold: after n bytes, `body` of them from the end of the head on, the stream closed or not, the
+-- places fed already or not.
 use mathlib.Core.Path.{_≡_}
-use mathlib.Core.Bool.{Bool, true, false, _&&_, _||_}
+use mathlib.Core.Bool.{Bool, true, false, cond, _&&_, _||_}
 use mathlib.Core.List.{List}
-use Prim.Native.Nat.{ℕ, _*_, _≤_}
-use lib.Dec.{eqb, leb}
+use Prim.Native.Nat.{ℕ, _+_, _*_, _≤_}
+use lib.Dec.{eqb, leb, ltb}
 use lib.IntN.{pos, natAbs}
 use Rattle.laws.specs.Each.{eachB, EachFrom}
 use Rattle.laws.specs.Limit.{limit}
+use Rattle.laws.specs.declared.Reason.{Reason}
+use Rattle.laws.specs.declared.Reason.the-variants.{Class255, BadByte, BadSecondByte, BrokenEscape, CutAtClose, NotInSlate}
 use Rattle.weights.specs.Weights.{perByte}
 use Rattle.records.specs.Fresh.{freshB}
 use Rattle.kinds.specs.Kinds.{placeNumber, freshOf}
@@ -17,13 +20,32 @@ use Rattle.places.specs.declared.place.Score.{Score}
 use Rattle.places.specs.declared.place.Score.the-variants.{None, Live}
 
 -- ---- one place
+-- so many bytes, and where the stream is closed one more, the closing space
+abbrev pub spacedOf : ℕ → Bool → ℕ
+spacedOf n closed = cond closed (n + 1) n
+
+-- what a place without a score can carry: a reason that its kind can give, before any trigger only 'not in the slate', and the
+-- place of a byte that has come; a cut only where the stream is closed, and at its end
+unfoldable pub droppedB : ℕ → Bool → Bool → ℕ → Reason → ℕ → Bool
+droppedB body closed fed k Class255 at = fed && (leb 4 k && leb at (spacedOf body closed))
+droppedB body closed fed k BadByte at = fed && (ltb k 4 && leb at body)
+droppedB body closed fed k BadSecondByte at = fed && ((eqb k 2 || eqb k 3) && leb at body)
+droppedB body closed fed k BrokenEscape at = fed && (eqb k 1 && leb at body)
+droppedB body closed fed k CutAtClose at = fed && (ltb k 4 && (closed && eqb at body))
+droppedB body closed fed k NotInSlate at = eqb at 0
+
 -- fresh where the score is none; else a score that no bound of so many bytes excludes
-abbrev pub ScoredFor : ℕ → Machine → Score → Type 0
-ScoredFor reach m None = m ≡ freshOf m
-ScoredFor reach m (Live s) = natAbs s ≤ perByte * reach
+module _ (reach body : ℕ) (closed fed : Bool) (k : ℕ) (m : Machine) where
+  abbrev pub ScoredFor : Score → Type 0
+  ScoredFor (None d at) = (m ≡ freshOf m) × (droppedB body closed fed k d at ≡ true)
+  ScoredFor (Live s) = natAbs s ≤ perByte * reach
+
+  unfoldable pub scoredB : Score → Bool
+  scoredB (None d at) = freshB m && droppedB body closed fed k d at
+  scoredB (Live s) = leb (natAbs s) (perByte * reach)
 
 abbrev pub ZeroOrNone : Score → Type 0
-ZeroOrNone None = Unit {0}
+ZeroOrNone (None d at) = Unit {0}
 ZeroOrNone (Live s) = s ≡ pos 0
 
 -- until a trigger is met, every place is fresh and its score 0 or none
@@ -31,33 +53,29 @@ abbrev pub FedOr : Bool → Place → Type 0
 FedOr true p = Unit {0}
 FedOr false p = (p .machine ≡ freshOf (p .machine)) × ZeroOrNone (p .score)
 
-pub record PlaceFor (n : ℕ) (closed fed : Bool) (k : ℕ) (p : Place) : Type 0 where
+pub record PlaceFor (n body : ℕ) (closed fed : Bool) (k : ℕ) (p : Place) : Type 0 where
   pub kind : placeNumber (p .machine) ≡ k
   pub sound : SoundFor n (reachOf (p .machine) n closed) (p .machine)
-  pub scored : ScoredFor (reachOf (p .machine) n closed) (p .machine) (p .score)
+  pub scored : ScoredFor (reachOf (p .machine) n closed) body closed fed k (p .machine) (p .score)
   pub fed-or : FedOr fed p
 
 -- ---- all places
-pub record SlateFor (n : ℕ) (closed fed : Bool) (ps : List Place) : Type 0 where
+pub record SlateFor (n body : ℕ) (closed fed : Bool) (ps : List Place) : Type 0 where
   pub most : n ≤ limit
-  pub each : EachFrom (PlaceFor n closed fed) 0 ps
+  pub each : EachFrom (PlaceFor n body closed fed) 0 ps
 
 -- ---- the test
-unfoldable pub scoredB : ℕ → Machine → Score → Bool
-scoredB reach m None = freshB m
-scoredB reach m (Live s) = leb (natAbs s) (perByte * reach)
-
 unfoldable pub zeroOrNoneB : Score → Bool
-zeroOrNoneB None = true
+zeroOrNoneB (None d at) = true
 zeroOrNoneB (Live s) = eqb (natAbs s) 0
 
 unfoldable pub unfedB : Place → Bool
 unfedB p = freshB (p .machine) && zeroOrNoneB (p .score)
 
-unfoldable pub placeB : ℕ → Bool → Bool → ℕ → Place → Bool
-placeB n closed fed k p =
+unfoldable pub placeB : ℕ → ℕ → Bool → Bool → ℕ → Place → Bool
+placeB n body closed fed k p =
     let reach = reachOf (p .machine) n closed in
-    eqb (placeNumber (p .machine)) k && (soundB n reach (p .machine) && (scoredB reach (p .machine) (p .score) && (fed || unfedB p)))
+    eqb (placeNumber (p .machine)) k && (soundB n reach (p .machine) && (scoredB reach body closed fed k (p .machine) (p .score) && (fed || unfedB p)))
 
-unfoldable pub slateB : ℕ → Bool → Bool → List Place → Bool
-slateB n closed fed ps = leb n limit && eachB (placeB n closed fed) 0 ps
+unfoldable pub slateB : ℕ → ℕ → Bool → Bool → List Place → Bool
+slateB n body closed fed ps = leb n limit && eachB (placeB n body closed fed) 0 ps

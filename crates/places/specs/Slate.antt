@@ -4,6 +4,7 @@ use mathlib.Core.List.{List, [], _∷_}
 use Prim.Native.Nat.{ℕ, suc, _/_, _%_}
 use lib.Dec.{eqb}
 use lib.IntN.{pos}
+use Rattle.laws.specs.declared.Reason.the-variants.{NotInSlate}
 use Rattle.big5.specs.Scoring as big5
 use Rattle.euckr.specs.Scoring as euckr
 use Rattle.iso2022jp.specs.Iso2022Jp as iso2022jp
@@ -23,7 +24,7 @@ use Rattle.places.specs.declared.place.Score.the-variants.{None, Live}
 -- ---- a start
 -- a place takes part where the bit that is worth `unit` is set; its score starts at 0
 abbrev pub takenOf : ℕ → ℕ → Score
-takenOf bits unit = cond (eqb (bits / unit % 2) 1) (Live (pos 0)) None
+takenOf bits unit = cond (eqb (bits / unit % 2) 1) (Live (pos 0)) (None NotInSlate 0)
 
 -- fresh machines, each in its place
 unfoldable pub startOf : ℕ → List Place
@@ -32,9 +33,9 @@ startOf bits =
 
 -- ---- a part of a chunk
 -- each place over its own tables, the first one's number being k
-unfoldable pub feedFrom : Tables → Bool → List ℕ → ℕ → List Place → List Place
-feedFrom t last xs k [] = []
-feedFrom t last xs k (p ∷ ps) = feedOf (ownOf t k) last xs p ∷ feedFrom t last xs (suc k) ps
+unfoldable pub feedFrom : Tables → Bool → ℕ → List ℕ → ℕ → List Place → List Place
+feedFrom t last body xs k [] = []
+feedFrom t last body xs k (p ∷ ps) = feedOf (ownOf t k) last body xs p ∷ feedFrom t last body xs (suc k) ps
 
-abbrev pub feedAll : Tables → Bool → List ℕ → List Place → List Place
-feedAll t last xs ps = feedFrom t last xs 0 ps
+abbrev pub feedAll : Tables → Bool → ℕ → List ℕ → List Place → List Place
+feedAll t last body xs ps = feedFrom t last body xs 0 ps

@@ -12,6 +12,7 @@ use lib.Seq.{drop-cons, drop-length}
 use borrow.Author.Tests.{le-leb, lt-leb}
 use Rattle.laws.specs.Each.{EachFrom, each-weaken, each-get}
 use Rattle.laws.specs.Limit.{limit}
+use Rattle.laws.specs.declared.Reason.the-variants.{NotInSlate}
 use Rattle.weights.specs.Weights.{perByte}
 use Rattle.big5.specs.Scoring as big5
 use Rattle.euckr.specs.Scoring as euckr
@@ -31,9 +32,9 @@ use Rattle.tables.specs.Tables.{Tables, Sized, sizedB}
 use Rattle.tables.specs.TablesLaws.{sized-true, true-sized}
 use Rattle.kinds.specs.declared.machine.Machine.{Machine}
 use Rattle.kinds.specs.declared.machine.Machine.the-variants.{Utf8, Iso2022Jp, EucKr, Big5, Caseless, Logical, Visual, ArabicFrench}
-use Rattle.places.specs.Order.{ScoredFor, ZeroOrNone, FedOr, PlaceFor, SlateFor, slateB}
+use Rattle.places.specs.Order.{droppedB, ScoredFor, ZeroOrNone, FedOr, PlaceFor, SlateFor}
 use Rattle.places.specs.Kept.{Kept, AllKept}
-use Rattle.places.specs.OrderLaws.{slate-true, true-slate, scored-more}
+use Rattle.places.specs.OrderLaws.{dropped-unfed, scored-more}
 use Rattle.places.specs.Place.{place, feedOf}
 use Rattle.places.specs.Steps.{BoundedScore, FitPart}
 use Rattle.places.specs.PlaceLaws.{feed-nil}
@@ -43,24 +44,25 @@ use Rattle.places.specs.declared.place.Score.{Score}
 use Rattle.places.specs.declared.place.Score.the-variants.{None, Live}
 
 -- ---- a start is in order
-taken-scored : (m : Machine) (t : Bool) → m ≡ freshOf m → ScoredFor 0 m (cond t (Live (pos 0)) None)
-taken-scored m true e = omega arith
-taken-scored m false e = e
+taken-scored : (k : ℕ) (m : Machine) (t : Bool) → m ≡ freshOf m → ScoredFor 0 0 false false k m (cond t (Live (pos 0)) (None NotInSlate 0))
+unfolding droppedB
+taken-scored k m true e = omega arith
+taken-scored k m false e = (e, refl)
 
-taken-zero : (t : Bool) → ZeroOrNone (cond t (Live (pos 0)) None)
+taken-zero : (t : Bool) → ZeroOrNone (cond t (Live (pos 0)) (None NotInSlate 0))
 taken-zero true = refl
 taken-zero false = tt
 
-begun : (k : ℕ) (m : Machine) (t : Bool) → placeNumber m ≡ k → m ≡ freshOf m → PlaceFor 0 false false k (place m (cond t (Live (pos 0)) None))
+begun : (k : ℕ) (m : Machine) (t : Bool) → placeNumber m ≡ k → m ≡ freshOf m → PlaceFor 0 0 false false k (place m (cond t (Live (pos 0)) (None NotInSlate 0)))
 begun k m t e f =
     record {
       kind = e;
       sound = rw (reach-open m 0) (rw (sym f) at (fresh-sound 0 0 m));
-      scored = rw (reach-open m 0) (taken-scored m t f);
+      scored = rw (reach-open m 0) (taken-scored k m t f);
       fed-or = (f, taken-zero t);
     }
 
-pub start-for : (bits : ℕ) → SlateFor 0 false false (startOf bits)
+pub start-for : (bits : ℕ) → SlateFor 0 0 false false (startOf bits)
 unfolding startOf freshOf
 start-for bits =
     record {
@@ -69,75 +71,83 @@ start-for bits =
     }
 
 -- ---- more bytes
-place-more : (n m : ℕ) (fed : Bool) → n ≤ m → (k : ℕ) (p : Place) → PlaceFor n false fed k p → PlaceFor m false true k p
-place-more n m fed h k p o =
+place-more : (n m b c : ℕ) (fed : Bool) → n ≤ m → b ≤ c → (k : ℕ) (p : Place) → PlaceFor n b false fed k p → PlaceFor m c false true k p
+place-more n m b c fed h l k p o =
     let x = p .machine in
     record {
       kind = o .kind;
       sound = rw (reach-open x m) (sound-more n m n m x h h (rw (reach-open x n) at (o .sound)));
-      scored = rw (reach-open x m) (scored-more n m x (p .score) h (rw (reach-open x n) at (o .scored)));
+      scored = rw (reach-open x m) (scored-more n m b c fed false k x (p .score) h l (rw (reach-open x n) at (o .scored)));
       fed-or = tt;
     }
 
-pub slate-more : (n m : ℕ) (fed : Bool) (ps : List Place) → n ≤ m → m ≤ limit → SlateFor n false fed ps → SlateFor m false true ps
-slate-more n m fed ps h l o = record { most = l; each = each-weaken (PlaceFor n false fed) (PlaceFor m false true) (place-more n m fed h) 0 ps (o .each) }
+pub slate-more : (n m b c : ℕ) (fed : Bool) (ps : List Place) → n ≤ m → b ≤ c → m ≤ limit → SlateFor n b false fed ps → SlateFor m c false true ps
+slate-more n m b c fed ps h l most o = record { most = most; each = each-weaken (PlaceFor n b false fed) (PlaceFor m c false true) (place-more n m b c fed h l) 0 ps (o .each) }
 
 -- ---- places that were not fed yet stay so, whatever the stream has
-zero-scored : (n : ℕ) (m : Machine) (c : Score) → m ≡ freshOf m → ZeroOrNone c → ScoredFor n m c
-zero-scored n m None e z = e
-zero-scored n m (Live s) e z = rw z (omega arith)
+zero-scored : (n b c : ℕ) (closed fed : Bool) (k : ℕ) (m : Machine) (s : Score) → m ≡ freshOf m → ZeroOrNone s → ScoredFor 0 b false false k m s → ScoredFor n c closed fed k m s
+zero-scored n b c closed fed k m (None d at) e z o = (e, dropped-unfed b c false closed fed k d at (o .1))
+zero-scored n b c closed fed k m (Live s) e z o = rw z (omega arith)
 
-unfed-for : (n m : ℕ) (closed fed : Bool) (k : ℕ) (p : Place) → FedOr fed p → PlaceFor n false false k p → PlaceFor m closed fed k p
-unfed-for n m closed fed k p f o =
+unscored : (n b : ℕ) (k : ℕ) (m : Machine) (s : Score) → ZeroOrNone s → ScoredFor n b false false k m s → ScoredFor 0 b false false k m s
+unscored n b k m (None d at) z o = o
+unscored n b k m (Live s) z o = rw z (omega arith)
+
+unfed-for : (n m b c : ℕ) (closed fed : Bool) (k : ℕ) (p : Place) → FedOr fed p → PlaceFor n b false false k p → PlaceFor m c closed fed k p
+unfed-for n m b c closed fed k p f o =
     let x = p .machine in
     let e = o .fed-or .0 in
+    let z = o .fed-or .1 in
     record {
       kind = o .kind;
       sound = rw (sym e) at (fresh-sound m (reachOf x m closed) x);
-      scored = zero-scored (reachOf x m closed) x (p .score) e (o .fed-or .1);
+      scored = zero-scored (reachOf x m closed) b c closed fed k x (p .score) e z (unscored (reachOf x n false) b k x (p .score) z (o .scored));
       fed-or = f;
     }
 
-pub slate-unfed : (n m : ℕ) (closed : Bool) (ps : List Place) → m ≤ limit → SlateFor n false false ps → SlateFor m closed false ps
-slate-unfed n m closed ps l o = record { most = l; each = each-weaken (PlaceFor n false false) (PlaceFor m closed false) (λ (k : ℕ) (p : Place) (q : PlaceFor n false false k p). unfed-for n m closed false k p (q .fed-or) q) 0 ps (o .each) }
+pub slate-unfed : (n m b c : ℕ) (closed : Bool) (ps : List Place) → m ≤ limit → SlateFor n b false false ps → SlateFor m c closed false ps
+slate-unfed n m b c closed ps l o = record { most = l; each = each-weaken (PlaceFor n b false false) (PlaceFor m c closed false) (λ (k : ℕ) (p : Place) (q : PlaceFor n b false false k p). unfed-for n m b c closed false k p (q .fed-or) q) 0 ps (o .each) }
 
 -- ---- the places after a part are in order
-each-fed : (t : Tables) (last : Bool) (xs : List ℕ) (n : ℕ) → n + length xs ≤ limit → (k : ℕ) (ps : List Place) → EachFrom (λ (j : ℕ) (p : Place). Kept (ownOf t j) last xs p) k ps → EachFrom (PlaceFor n false true) k ps → EachFrom (PlaceFor (n + length xs) last true) k (feedFrom t last xs k ps)
-unfolding feedFrom
-each-fed t last xs n h k [] f o = tt
-each-fed t last xs n h k (p ∷ ps) f o = (f .0 .kept n k h (o .0), each-fed t last xs n h (suc k) ps (f .1) (o .1))
+module _ (t : Tables) (last : Bool) (body : ℕ) (xs : List ℕ) where
+  each-fed : (n b : ℕ) → n + length xs ≤ limit → b ≤ body → (k : ℕ) (ps : List Place) → EachFrom (λ (j : ℕ) (p : Place). Kept (ownOf t j) last body xs p) k ps → EachFrom (PlaceFor n b false true) k ps → EachFrom (PlaceFor (n + length xs) body last true) k (feedFrom t last body xs k ps)
+  unfolding feedFrom
+  each-fed n b h l k [] f o = tt
+  each-fed n b h l k (p ∷ ps) f o = (f .0 .kept n b k h l (o .0), each-fed n b h l (suc k) ps (f .1) (o .1))
 
-pub fed-slate : (t : Tables) (last fed : Bool) (xs : List ℕ) (n : ℕ) (ps : List Place) → n + length xs ≤ limit → AllKept t last xs ps → SlateFor n false fed ps → SlateFor (n + length xs) last true (feedAll t last xs ps)
-fed-slate t last fed xs n ps h f o =
-    record { most = h; each = each-fed t last xs n h 0 ps f (slate-more n n fed ps (omega arith) (o .most) o .each) }
+  pub fed-slate : (fed : Bool) (n b : ℕ) (ps : List Place) → n + length xs ≤ limit → b ≤ body → AllKept t last body xs ps → SlateFor n b false fed ps → SlateFor (n + length xs) body last true (feedAll t last body xs ps)
+  fed-slate fed n b ps h l f o =
+      record { most = h; each = each-fed n b h l 0 ps f (slate-more n n b b fed ps (omega arith) (omega arith) (o .most) o .each) }
 
-nil-kept-at : (t : Own) (p : Place) → Kept t false [] p
-nil-kept-at t p = record { kept = λ (n k : ℕ) h o. rw (feed-nil t p, add-zero) o }
+nil-kept-at : (t : Own) (body : ℕ) (p : Place) → Kept t false body [] p
+nil-kept-at t body p =
+    record { kept = λ (n b k : ℕ) h l o. rw (feed-nil t body p) (subst (λ (i : ℕ). PlaceFor i body false true k p) (sym (add-zero n)) (place-more n n b body true (omega arith) l k p o)) }
 
-pub nil-kept : (t : Tables) (k : ℕ) (ps : List Place) → EachFrom (λ (j : ℕ) (p : Place). Kept (ownOf t j) false [] p) k ps
-nil-kept t k [] = tt
-nil-kept t k (p ∷ ps) = (nil-kept-at (ownOf t k) p, nil-kept t (suc k) ps)
+pub nil-kept : (t : Tables) (body k : ℕ) (ps : List Place) → EachFrom (λ (j : ℕ) (p : Place). Kept (ownOf t j) false body [] p) k ps
+nil-kept t body k [] = tt
+nil-kept t body k (p ∷ ps) = (nil-kept-at (ownOf t k) body p, nil-kept t body (suc k) ps)
 
 -- an empty part that is not the last one leaves all as it is
-feed-from-nil : (t : Tables) (k : ℕ) (ps : List Place) → feedFrom t false [] k ps ≡ ps
+feed-from-nil : (t : Tables) (body k : ℕ) (ps : List Place) → feedFrom t false body [] k ps ≡ ps
 unfolding feedFrom
-feed-from-nil t k [] = refl
-feed-from-nil t k (p ∷ ps) = rw (feed-nil (ownOf t k) p, feed-from-nil t (suc k) ps)
+feed-from-nil t body k [] = refl
+feed-from-nil t body k (p ∷ ps) = rw (feed-nil (ownOf t k) body p, feed-from-nil t body (suc k) ps)
 
-pub feed-all-nil : (t : Tables) (ps : List Place) → feedAll t false [] ps ≡ ps
-feed-all-nil t ps = feed-from-nil t 0 ps
+pub feed-all-nil : (t : Tables) (body : ℕ) (ps : List Place) → feedAll t false body [] ps ≡ ps
+feed-all-nil t body ps = feed-from-nil t body 0 ps
 
 -- what a part makes of place k: what it makes of it alone, over its own tables
-feed-from-at : (t : Tables) (last : Bool) (xs : List ℕ) (k : ℕ) (ps : List Place) (d : Place) (i : ℕ) → i < length ps → getD (feedFrom t last xs k ps) i d ≡ feedOf (ownOf t (k + i)) last xs (getD ps i d)
-unfolding feedFrom
-feed-from-at t last xs k [] d i h = absurd (not-suc-le-zero h)
-feed-from-at t last xs k (p ∷ ps) d zero h = rw add-zero
-feed-from-at t last xs k (p ∷ ps) d (suc i) h =
-    let q : suc k + i ≡ k + suc i = omega arith in
-    subst (λ (j : ℕ). getD (feedFrom t last xs (suc k) ps) i d ≡ feedOf (ownOf t j) last xs (getD ps i d)) q (feed-from-at t last xs (suc k) ps d i (le-of-suc-le-suc h))
+module _ (t : Tables) (last : Bool) (body : ℕ) (xs : List ℕ) where
+  feed-from-at : (k : ℕ) (ps : List Place) (d : Place) (i : ℕ) → i < length ps → getD (feedFrom t last body xs k ps) i d ≡ feedOf (ownOf t (k + i)) last body xs (getD ps i d)
+  unfolding feedFrom
+  feed-from-at k [] d i h = absurd (not-suc-le-zero h)
+  feed-from-at k (p ∷ ps) d zero h = rw add-zero
+  feed-from-at k (p ∷ ps) d (suc i) h =
+      let q : suc k + i ≡ k + suc i = omega arith in
+      subst (λ (j : ℕ). getD (feedFrom t last body xs (suc k) ps) i d ≡ feedOf (ownOf t j) last body xs (getD ps i d)) q (feed-from-at (suc k) ps d i (le-of-suc-le-suc h))
 
-pub feed-at : (t : Tables) (last : Bool) (xs : List ℕ) (ps : List Place) (d : Place) (k : ℕ) → k < length ps → getD (feedAll t last xs ps) k d ≡ feedOf (ownOf t k) last xs (getD ps k d)
-feed-at t last xs ps d k h = subst (λ (i : ℕ). getD (feedAll t last xs ps) k d ≡ feedOf (ownOf t i) last xs (getD ps k d)) (zero-add k) (feed-from-at t last xs 0 ps d k h)
+  pub feed-at : (ps : List Place) (d : Place) (k : ℕ) → k < length ps → getD (feedAll t last body xs ps) k d ≡ feedOf (ownOf t k) last body xs (getD ps k d)
+  feed-at ps d k h = subst (λ (i : ℕ). getD (feedAll t last body xs ps) k d ≡ feedOf (ownOf t i) last body xs (getD ps k d)) (zero-add k) (feed-from-at 0 ps d k h)
 
 -- eight places, one by one
 pub joined : {p q : Place} {ps qs : List Place} → p ≡ q → ps ≡ qs → p ∷ ps ≡ q ∷ qs

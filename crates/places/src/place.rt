@@ -2,9 +2,12 @@
 //
 // There is a function for each kind, so that a call goes to one machine's loop and to nothing else. A place that can't be fed,
 // since it has no score, or a machine of another kind or one that is not fit, is left fresh and without a score; in a state
-// in order only a place without a score can't, and it is fresh already.
+// in order only a place without a score can't, and it is fresh already and keeps its reason.
+//
+// `body` is how many bytes from the end of the head on have come, those of the part among them.
 ghost use mathlib.Core.Path.{_≡_};
 ghost use mathlib.Core.List.{[]};
+ghost use Prim.Native.Nat.{_-_};
 ghost use Rattle.tables.specs.Own.{own};
 ghost use Rattle.places.specs.Fed.{settledOf, fedAs, decoderEnded, KnownFed};
 use arabic_french::ArabicFrench;
@@ -14,12 +17,15 @@ use euckr::EucKr;
 use iso2022jp::Iso2022Jp;
 use kinds::machine::Machine;
 use kinds::machine::Ran;
+use laws::Reason;
 use logical::Logical;
 use utf8::Utf8;
 use visual::Visual;
 
+// None has the reason, and the place of the byte at which it happened: counted from 1 at the first byte after the head, 0 for a
+// byte of the head and for a place that takes no part.
 pub enum Score {
-    None,
+    None(Reason, u64),
     Live(i64),
 }
 
@@ -31,28 +37,39 @@ pub struct Place {
 // Eight places, by their numbers: UTF-8, ISO-2022-JP, EUC-KR, Big5, caseless, logical, visual, Arabic-French.
 pub type Slate = [Place; 8];
 
-// The score becomes the sum, or none with the fresh machine.
-fn settled(fresh: Machine, before: i64, ran: Ran) -> Place
-    ensures { λ r. ⌜ r ≡ settledOf fresh before ran ⌝ }
+// The difference, or 0.
+pub(crate) fn less(a: u64, b: u64) -> u64
+    ensures { λ r. ⌜ r ≡ a - b ⌝ }
+{
+    if b <= a {
+        return a - b;
+    }
+    0
+}
+
+// The score becomes the sum, or none with the fresh machine. The byte at which a part of so many bytes drops out is counted back
+// from its end: the offset is from 0, and of those behind the byte none has come.
+fn settled(fresh: Machine, before: i64, ran: Ran, body: u64, bytes: usize) -> Place
+    ensures { λ r. ⌜ r ≡ settledOf fresh before body bytes ran ⌝ }
 {
     match ran {
         Ran::Live(next, gain) => Place {
             machine: next,
             score: Score::Live(signed::sum(before, gain)),
         },
-        Ran::Dropped => Place {
+        Ran::Dropped(reason, at) => Place {
             machine: fresh,
-            score: Score::None,
+            score: Score::None(reason, less(body, less(less(bytes as u64, at as u64), 1))),
         },
         Ran::Unfit => Place {
             machine: fresh,
-            score: Score::None,
+            score: Score::None(Reason::NotInSlate, 0),
         },
     }
 }
 
-pub(crate) fn feed_utf8(place: Place, part: &[u8]) -> Place
-    ensures { λ r. ⌜ r ≡ fedAs 0 (own [] [] [] [] [] []) (now (part .entry)) place ⌝ }
+pub(crate) fn feed_utf8(place: Place, part: &[u8], body: u64) -> Place
+    ensures { λ r. ⌜ r ≡ fedAs 0 (own [] [] [] [] [] []) body (now (part .entry)) place ⌝ }
     ensures { λ r. ⌜ KnownFed 0 (own [] [] [] [] [] []) (now (part .entry)) place ⌝ }
 {
     let machine = place.machine;
@@ -61,14 +78,14 @@ pub(crate) fn feed_utf8(place: Place, part: &[u8]) -> Place
     let Score::Live(before) = score else {
         return Place {
             machine: fresh,
-            score: Score::None,
+            score,
         };
     };
-    settled(fresh, before, machine.run_utf8(part))
+    settled(fresh, before, machine.run_utf8(part), body, part.len())
 }
 
-pub(crate) fn feed_iso2022jp(place: Place, part: &[u8], index: &[u32]) -> Place
-    ensures { λ r. ⌜ r ≡ fedAs 1 (own [] [] [] (now (index .entry)) [] []) (now (part .entry)) place ⌝ }
+pub(crate) fn feed_iso2022jp(place: Place, part: &[u8], body: u64, index: &[u32]) -> Place
+    ensures { λ r. ⌜ r ≡ fedAs 1 (own [] [] [] (now (index .entry)) [] []) body (now (part .entry)) place ⌝ }
     ensures { λ r. ⌜ KnownFed 1 (own [] [] [] (now (index .entry)) [] []) (now (part .entry)) place ⌝ }
 {
     let machine = place.machine;
@@ -77,20 +94,27 @@ pub(crate) fn feed_iso2022jp(place: Place, part: &[u8], index: &[u32]) -> Place
     let Score::Live(before) = score else {
         return Place {
             machine: fresh,
-            score: Score::None,
+            score,
         };
     };
-    settled(fresh, before, machine.run_iso2022jp(part, index))
+    settled(
+        fresh,
+        before,
+        machine.run_iso2022jp(part, index),
+        body,
+        part.len(),
+    )
 }
 
 pub(crate) fn feed_euckr(
     place: Place,
     part: &[u8],
+    body: u64,
     index: &[u32],
     extras: &[i16],
     weights: &[i32],
 ) -> Place
-    ensures { λ r. ⌜ r ≡ fedAs 2 (own [] [] [] (now (index .entry)) (now (extras .entry)) (now (weights .entry))) (now (part .entry)) place ⌝ }
+    ensures { λ r. ⌜ r ≡ fedAs 2 (own [] [] [] (now (index .entry)) (now (extras .entry)) (now (weights .entry))) body (now (part .entry)) place ⌝ }
     ensures { λ r. ⌜ KnownFed 2 (own [] [] [] (now (index .entry)) (now (extras .entry)) (now (weights .entry))) (now (part .entry)) place ⌝ }
 {
     let machine = place.machine;
@@ -99,18 +123,26 @@ pub(crate) fn feed_euckr(
     let Score::Live(before) = score else {
         return Place {
             machine: fresh,
-            score: Score::None,
+            score,
         };
     };
     settled(
         fresh,
         before,
         machine.run_euckr(part, index, extras, weights),
+        body,
+        part.len(),
     )
 }
 
-pub(crate) fn feed_big5(place: Place, part: &[u8], index: &[u32], weights: &[i32]) -> Place
-    ensures { λ r. ⌜ r ≡ fedAs 3 (own [] [] [] (now (index .entry)) [] (now (weights .entry))) (now (part .entry)) place ⌝ }
+pub(crate) fn feed_big5(
+    place: Place,
+    part: &[u8],
+    body: u64,
+    index: &[u32],
+    weights: &[i32],
+) -> Place
+    ensures { λ r. ⌜ r ≡ fedAs 3 (own [] [] [] (now (index .entry)) [] (now (weights .entry))) body (now (part .entry)) place ⌝ }
     ensures { λ r. ⌜ KnownFed 3 (own [] [] [] (now (index .entry)) [] (now (weights .entry))) (now (part .entry)) place ⌝ }
 {
     let machine = place.machine;
@@ -119,21 +151,28 @@ pub(crate) fn feed_big5(place: Place, part: &[u8], index: &[u32], weights: &[i32
     let Score::Live(before) = score else {
         return Place {
             machine: fresh,
-            score: Score::None,
+            score,
         };
     };
-    settled(fresh, before, machine.run_big5(part, index, weights))
+    settled(
+        fresh,
+        before,
+        machine.run_big5(part, index, weights),
+        body,
+        part.len(),
+    )
 }
 
 pub(crate) fn feed_caseless(
     place: Place,
     part: &[u8],
+    body: u64,
     classes: &[u8],
     marks: &[u8],
     pairs: &[i16],
     weights: &[i32],
 ) -> Place
-    ensures { λ r. ⌜ r ≡ fedAs 4 (own (now (classes .entry)) (now (marks .entry)) (now (pairs .entry)) [] [] (now (weights .entry))) (now (part .entry)) place ⌝ }
+    ensures { λ r. ⌜ r ≡ fedAs 4 (own (now (classes .entry)) (now (marks .entry)) (now (pairs .entry)) [] [] (now (weights .entry))) body (now (part .entry)) place ⌝ }
     ensures { λ r. ⌜ KnownFed 4 (own (now (classes .entry)) (now (marks .entry)) (now (pairs .entry)) [] [] (now (weights .entry))) (now (part .entry)) place ⌝ }
 {
     let machine = place.machine;
@@ -142,25 +181,28 @@ pub(crate) fn feed_caseless(
     let Score::Live(before) = score else {
         return Place {
             machine: fresh,
-            score: Score::None,
+            score,
         };
     };
     settled(
         fresh,
         before,
         machine.run_caseless(part, classes, marks, pairs, weights),
+        body,
+        part.len(),
     )
 }
 
 pub(crate) fn feed_logical(
     place: Place,
     part: &[u8],
+    body: u64,
     classes: &[u8],
     marks: &[u8],
     pairs: &[i16],
     weights: &[i32],
 ) -> Place
-    ensures { λ r. ⌜ r ≡ fedAs 5 (own (now (classes .entry)) (now (marks .entry)) (now (pairs .entry)) [] [] (now (weights .entry))) (now (part .entry)) place ⌝ }
+    ensures { λ r. ⌜ r ≡ fedAs 5 (own (now (classes .entry)) (now (marks .entry)) (now (pairs .entry)) [] [] (now (weights .entry))) body (now (part .entry)) place ⌝ }
     ensures { λ r. ⌜ KnownFed 5 (own (now (classes .entry)) (now (marks .entry)) (now (pairs .entry)) [] [] (now (weights .entry))) (now (part .entry)) place ⌝ }
 {
     let machine = place.machine;
@@ -169,25 +211,28 @@ pub(crate) fn feed_logical(
     let Score::Live(before) = score else {
         return Place {
             machine: fresh,
-            score: Score::None,
+            score,
         };
     };
     settled(
         fresh,
         before,
         machine.run_logical(part, classes, marks, pairs, weights),
+        body,
+        part.len(),
     )
 }
 
 pub(crate) fn feed_visual(
     place: Place,
     part: &[u8],
+    body: u64,
     classes: &[u8],
     marks: &[u8],
     pairs: &[i16],
     weights: &[i32],
 ) -> Place
-    ensures { λ r. ⌜ r ≡ fedAs 6 (own (now (classes .entry)) (now (marks .entry)) (now (pairs .entry)) [] [] (now (weights .entry))) (now (part .entry)) place ⌝ }
+    ensures { λ r. ⌜ r ≡ fedAs 6 (own (now (classes .entry)) (now (marks .entry)) (now (pairs .entry)) [] [] (now (weights .entry))) body (now (part .entry)) place ⌝ }
     ensures { λ r. ⌜ KnownFed 6 (own (now (classes .entry)) (now (marks .entry)) (now (pairs .entry)) [] [] (now (weights .entry))) (now (part .entry)) place ⌝ }
 {
     let machine = place.machine;
@@ -196,25 +241,28 @@ pub(crate) fn feed_visual(
     let Score::Live(before) = score else {
         return Place {
             machine: fresh,
-            score: Score::None,
+            score,
         };
     };
     settled(
         fresh,
         before,
         machine.run_visual(part, classes, marks, pairs, weights),
+        body,
+        part.len(),
     )
 }
 
 pub(crate) fn feed_arabic_french(
     place: Place,
     part: &[u8],
+    body: u64,
     classes: &[u8],
     marks: &[u8],
     pairs: &[i16],
     weights: &[i32],
 ) -> Place
-    ensures { λ r. ⌜ r ≡ fedAs 7 (own (now (classes .entry)) (now (marks .entry)) (now (pairs .entry)) [] [] (now (weights .entry))) (now (part .entry)) place ⌝ }
+    ensures { λ r. ⌜ r ≡ fedAs 7 (own (now (classes .entry)) (now (marks .entry)) (now (pairs .entry)) [] [] (now (weights .entry))) body (now (part .entry)) place ⌝ }
     ensures { λ r. ⌜ KnownFed 7 (own (now (classes .entry)) (now (marks .entry)) (now (pairs .entry)) [] [] (now (weights .entry))) (now (part .entry)) place ⌝ }
 {
     let machine = place.machine;
@@ -223,19 +271,21 @@ pub(crate) fn feed_arabic_french(
     let Score::Live(before) = score else {
         return Place {
             machine: fresh,
-            score: Score::None,
+            score,
         };
     };
     settled(
         fresh,
         before,
         machine.run_arabic_french(part, classes, marks, pairs, weights),
+        body,
+        part.len(),
     )
 }
 
 // The end of the stream to a decoder's place.
-pub(crate) fn end_decoder(place: Place) -> Place
-    ensures { λ r. ⌜ r ≡ decoderEnded place ⌝ }
+pub(crate) fn end_decoder(place: Place, body: u64) -> Place
+    ensures { λ r. ⌜ r ≡ decoderEnded body place ⌝ }
 {
     let machine = place.machine;
     let score = place.score;
@@ -243,8 +293,8 @@ pub(crate) fn end_decoder(place: Place) -> Place
     let Score::Live(before) = score else {
         return Place {
             machine: fresh,
-            score: Score::None,
+            score,
         };
     };
-    settled(fresh, before, machine.close_decoder())
+    settled(fresh, before, machine.close_decoder(), body, 0)
 }

@@ -15,6 +15,7 @@ use caseless::Caseless;
 use euckr::EucKr;
 use iso2022jp::Iso2022Jp;
 use kinds::machine::Machine;
+use laws::Reason;
 use logical::Logical;
 use utf8::Utf8;
 use visual::Visual;
@@ -29,7 +30,7 @@ fn taken(bits: u8, unit: u8) -> Score
     if bits / unit % 2 == 1 {
         return Score::Live(0);
     }
-    Score::None
+    Score::None(Reason::NotInSlate, 0)
 }
 
 fn begun(machine: Machine, bits: u8, unit: u8) -> Place
@@ -62,6 +63,7 @@ pub fn start(bits: u8) -> Slate
 fn feed_each(
     places: Slate,
     part: &[u8],
+    body: u64,
     classes4: &[u8],
     marks4: &[u8],
     pairs4: &[i16],
@@ -80,18 +82,18 @@ fn feed_each(
     extras: &[i16],
     weights: &[i32],
 ) -> Slate
-    ensures { λ r. ⌜ r ≡ fedEach (tables (now (classes4 .entry)) (now (marks4 .entry)) (now (pairs4 .entry)) (now (classes5 .entry)) (now (marks5 .entry)) (now (pairs5 .entry)) (now (classes6 .entry)) (now (marks6 .entry)) (now (pairs6 .entry)) (now (classes7 .entry)) (now (marks7 .entry)) (now (pairs7 .entry)) (now (big5 .entry)) (now (euckr .entry)) (now (jis .entry)) (now (extras .entry)) (now (weights .entry))) (now (part .entry)) places ⌝ }
+    ensures { λ r. ⌜ r ≡ fedEach (tables (now (classes4 .entry)) (now (marks4 .entry)) (now (pairs4 .entry)) (now (classes5 .entry)) (now (marks5 .entry)) (now (pairs5 .entry)) (now (classes6 .entry)) (now (marks6 .entry)) (now (pairs6 .entry)) (now (classes7 .entry)) (now (marks7 .entry)) (now (pairs7 .entry)) (now (big5 .entry)) (now (euckr .entry)) (now (jis .entry)) (now (extras .entry)) (now (weights .entry))) body (now (part .entry)) places ⌝ }
     ensures { λ r. ⌜ AllKnown (tables (now (classes4 .entry)) (now (marks4 .entry)) (now (pairs4 .entry)) (now (classes5 .entry)) (now (marks5 .entry)) (now (pairs5 .entry)) (now (classes6 .entry)) (now (marks6 .entry)) (now (pairs6 .entry)) (now (classes7 .entry)) (now (marks7 .entry)) (now (pairs7 .entry)) (now (big5 .entry)) (now (euckr .entry)) (now (jis .entry)) (now (extras .entry)) (now (weights .entry))) (now (part .entry)) places ⌝ }
 {
     [
-        place::feed_utf8(places[0], part),
-        place::feed_iso2022jp(places[1], part, jis),
-        place::feed_euckr(places[2], part, euckr, extras, weights),
-        place::feed_big5(places[3], part, big5, weights),
-        place::feed_caseless(places[4], part, classes4, marks4, pairs4, weights),
-        place::feed_logical(places[5], part, classes5, marks5, pairs5, weights),
-        place::feed_visual(places[6], part, classes6, marks6, pairs6, weights),
-        place::feed_arabic_french(places[7], part, classes7, marks7, pairs7, weights),
+        place::feed_utf8(places[0], part, body),
+        place::feed_iso2022jp(places[1], part, body, jis),
+        place::feed_euckr(places[2], part, body, euckr, extras, weights),
+        place::feed_big5(places[3], part, body, big5, weights),
+        place::feed_caseless(places[4], part, body, classes4, marks4, pairs4, weights),
+        place::feed_logical(places[5], part, body, classes5, marks5, pairs5, weights),
+        place::feed_visual(places[6], part, body, classes6, marks6, pairs6, weights),
+        place::feed_arabic_french(places[7], part, body, classes7, marks7, pairs7, weights),
     ]
 }
 
@@ -101,6 +103,7 @@ fn feed_both(
     places: Slate,
     before: &[u8],
     part: &[u8],
+    body: u64,
     classes4: &[u8],
     marks4: &[u8],
     pairs4: &[i16],
@@ -119,53 +122,64 @@ fn feed_both(
     extras: &[i16],
     weights: &[i32],
 ) -> Slate
-    ensures { λ r. ⌜ r ≡ fedEach (tables (now (classes4 .entry)) (now (marks4 .entry)) (now (pairs4 .entry)) (now (classes5 .entry)) (now (marks5 .entry)) (now (pairs5 .entry)) (now (classes6 .entry)) (now (marks6 .entry)) (now (pairs6 .entry)) (now (classes7 .entry)) (now (marks7 .entry)) (now (pairs7 .entry)) (now (big5 .entry)) (now (euckr .entry)) (now (jis .entry)) (now (extras .entry)) (now (weights .entry))) (now (part .entry)) (fedEach (tables (now (classes4 .entry)) (now (marks4 .entry)) (now (pairs4 .entry)) (now (classes5 .entry)) (now (marks5 .entry)) (now (pairs5 .entry)) (now (classes6 .entry)) (now (marks6 .entry)) (now (pairs6 .entry)) (now (classes7 .entry)) (now (marks7 .entry)) (now (pairs7 .entry)) (now (big5 .entry)) (now (euckr .entry)) (now (jis .entry)) (now (extras .entry)) (now (weights .entry))) (now (before .entry)) places) ⌝ }
+    ensures { λ r. ⌜ r ≡ fedEach (tables (now (classes4 .entry)) (now (marks4 .entry)) (now (pairs4 .entry)) (now (classes5 .entry)) (now (marks5 .entry)) (now (pairs5 .entry)) (now (classes6 .entry)) (now (marks6 .entry)) (now (pairs6 .entry)) (now (classes7 .entry)) (now (marks7 .entry)) (now (pairs7 .entry)) (now (big5 .entry)) (now (euckr .entry)) (now (jis .entry)) (now (extras .entry)) (now (weights .entry))) body (now (part .entry)) (fedEach (tables (now (classes4 .entry)) (now (marks4 .entry)) (now (pairs4 .entry)) (now (classes5 .entry)) (now (marks5 .entry)) (now (pairs5 .entry)) (now (classes6 .entry)) (now (marks6 .entry)) (now (pairs6 .entry)) (now (classes7 .entry)) (now (marks7 .entry)) (now (pairs7 .entry)) (now (big5 .entry)) (now (euckr .entry)) (now (jis .entry)) (now (extras .entry)) (now (weights .entry))) 0 (now (before .entry)) places) ⌝ }
     ensures { λ r. ⌜ AllKnown (tables (now (classes4 .entry)) (now (marks4 .entry)) (now (pairs4 .entry)) (now (classes5 .entry)) (now (marks5 .entry)) (now (pairs5 .entry)) (now (classes6 .entry)) (now (marks6 .entry)) (now (pairs6 .entry)) (now (classes7 .entry)) (now (marks7 .entry)) (now (pairs7 .entry)) (now (big5 .entry)) (now (euckr .entry)) (now (jis .entry)) (now (extras .entry)) (now (weights .entry))) (now (before .entry)) places ⌝ }
-    ensures { λ r. ⌜ AllKnown (tables (now (classes4 .entry)) (now (marks4 .entry)) (now (pairs4 .entry)) (now (classes5 .entry)) (now (marks5 .entry)) (now (pairs5 .entry)) (now (classes6 .entry)) (now (marks6 .entry)) (now (pairs6 .entry)) (now (classes7 .entry)) (now (marks7 .entry)) (now (pairs7 .entry)) (now (big5 .entry)) (now (euckr .entry)) (now (jis .entry)) (now (extras .entry)) (now (weights .entry))) (now (part .entry)) (fedEach (tables (now (classes4 .entry)) (now (marks4 .entry)) (now (pairs4 .entry)) (now (classes5 .entry)) (now (marks5 .entry)) (now (pairs5 .entry)) (now (classes6 .entry)) (now (marks6 .entry)) (now (pairs6 .entry)) (now (classes7 .entry)) (now (marks7 .entry)) (now (pairs7 .entry)) (now (big5 .entry)) (now (euckr .entry)) (now (jis .entry)) (now (extras .entry)) (now (weights .entry))) (now (before .entry)) places) ⌝ }
+    ensures { λ r. ⌜ AllKnown (tables (now (classes4 .entry)) (now (marks4 .entry)) (now (pairs4 .entry)) (now (classes5 .entry)) (now (marks5 .entry)) (now (pairs5 .entry)) (now (classes6 .entry)) (now (marks6 .entry)) (now (pairs6 .entry)) (now (classes7 .entry)) (now (marks7 .entry)) (now (pairs7 .entry)) (now (big5 .entry)) (now (euckr .entry)) (now (jis .entry)) (now (extras .entry)) (now (weights .entry))) (now (part .entry)) (fedEach (tables (now (classes4 .entry)) (now (marks4 .entry)) (now (pairs4 .entry)) (now (classes5 .entry)) (now (marks5 .entry)) (now (pairs5 .entry)) (now (classes6 .entry)) (now (marks6 .entry)) (now (pairs6 .entry)) (now (classes7 .entry)) (now (marks7 .entry)) (now (pairs7 .entry)) (now (big5 .entry)) (now (euckr .entry)) (now (jis .entry)) (now (extras .entry)) (now (weights .entry))) 0 (now (before .entry)) places) ⌝ }
 {
     [
-        place::feed_utf8(place::feed_utf8(places[0], before), part),
-        place::feed_iso2022jp(place::feed_iso2022jp(places[1], before, jis), part, jis),
-        place::feed_euckr(
-            place::feed_euckr(places[2], before, euckr, extras, weights),
+        place::feed_utf8(place::feed_utf8(places[0], before, 0), part, body),
+        place::feed_iso2022jp(
+            place::feed_iso2022jp(places[1], before, 0, jis),
             part,
+            body,
+            jis,
+        ),
+        place::feed_euckr(
+            place::feed_euckr(places[2], before, 0, euckr, extras, weights),
+            part,
+            body,
             euckr,
             extras,
             weights,
         ),
         place::feed_big5(
-            place::feed_big5(places[3], before, big5, weights),
+            place::feed_big5(places[3], before, 0, big5, weights),
             part,
+            body,
             big5,
             weights,
         ),
         place::feed_caseless(
-            place::feed_caseless(places[4], before, classes4, marks4, pairs4, weights),
+            place::feed_caseless(places[4], before, 0, classes4, marks4, pairs4, weights),
             part,
+            body,
             classes4,
             marks4,
             pairs4,
             weights,
         ),
         place::feed_logical(
-            place::feed_logical(places[5], before, classes5, marks5, pairs5, weights),
+            place::feed_logical(places[5], before, 0, classes5, marks5, pairs5, weights),
             part,
+            body,
             classes5,
             marks5,
             pairs5,
             weights,
         ),
         place::feed_visual(
-            place::feed_visual(places[6], before, classes6, marks6, pairs6, weights),
+            place::feed_visual(places[6], before, 0, classes6, marks6, pairs6, weights),
             part,
+            body,
             classes6,
             marks6,
             pairs6,
             weights,
         ),
         place::feed_arabic_french(
-            place::feed_arabic_french(places[7], before, classes7, marks7, pairs7, weights),
+            place::feed_arabic_french(places[7], before, 0, classes7, marks7, pairs7, weights),
             part,
+            body,
             classes7,
             marks7,
             pairs7,
@@ -174,9 +188,10 @@ fn feed_both(
     ]
 }
 
-// The end of the stream: to the single-byte machines it is a space.
+// The end of the stream: to the single-byte machines it is a space, one byte past the others.
 fn end_each(
     places: Slate,
+    body: u64,
     classes4: &[u8],
     marks4: &[u8],
     pairs4: &[i16],
@@ -195,26 +210,28 @@ fn end_each(
     extras: &[i16],
     weights: &[i32],
 ) -> Slate
-    ensures { λ r. ⌜ r ≡ endedEach (tables (now (classes4 .entry)) (now (marks4 .entry)) (now (pairs4 .entry)) (now (classes5 .entry)) (now (marks5 .entry)) (now (pairs5 .entry)) (now (classes6 .entry)) (now (marks6 .entry)) (now (pairs6 .entry)) (now (classes7 .entry)) (now (marks7 .entry)) (now (pairs7 .entry)) (now (big5 .entry)) (now (euckr .entry)) (now (jis .entry)) (now (extras .entry)) (now (weights .entry))) places ⌝ }
+    ensures { λ r. ⌜ r ≡ endedEach (tables (now (classes4 .entry)) (now (marks4 .entry)) (now (pairs4 .entry)) (now (classes5 .entry)) (now (marks5 .entry)) (now (pairs5 .entry)) (now (classes6 .entry)) (now (marks6 .entry)) (now (pairs6 .entry)) (now (classes7 .entry)) (now (marks7 .entry)) (now (pairs7 .entry)) (now (big5 .entry)) (now (euckr .entry)) (now (jis .entry)) (now (extras .entry)) (now (weights .entry))) body places ⌝ }
     ensures { λ r. ⌜ EndKnown (tables (now (classes4 .entry)) (now (marks4 .entry)) (now (pairs4 .entry)) (now (classes5 .entry)) (now (marks5 .entry)) (now (pairs5 .entry)) (now (classes6 .entry)) (now (marks6 .entry)) (now (pairs6 .entry)) (now (classes7 .entry)) (now (marks7 .entry)) (now (pairs7 .entry)) (now (big5 .entry)) (now (euckr .entry)) (now (jis .entry)) (now (extras .entry)) (now (weights .entry))) places ⌝ }
 {
+    let past = std::num::wrapping_add_u64(body, 1);
     [
-        place::end_decoder(places[0]),
-        place::end_decoder(places[1]),
-        place::end_decoder(places[2]),
-        place::end_decoder(places[3]),
-        place::feed_caseless(places[4], b" ", classes4, marks4, pairs4, weights),
-        place::feed_logical(places[5], b" ", classes5, marks5, pairs5, weights),
-        place::feed_visual(places[6], b" ", classes6, marks6, pairs6, weights),
-        place::feed_arabic_french(places[7], b" ", classes7, marks7, pairs7, weights),
+        place::end_decoder(places[0], body),
+        place::end_decoder(places[1], body),
+        place::end_decoder(places[2], body),
+        place::end_decoder(places[3], body),
+        place::feed_caseless(places[4], b" ", past, classes4, marks4, pairs4, weights),
+        place::feed_logical(places[5], b" ", past, classes5, marks5, pairs5, weights),
+        place::feed_visual(places[6], b" ", past, classes6, marks6, pairs6, weights),
+        place::feed_arabic_french(places[7], b" ", past, classes7, marks7, pairs7, weights),
     ]
 }
 
-// A part of a chunk to all places.
+// A part of a chunk to all places. `body` is how many bytes from the end of the head on have come, those of the part among them.
 pub fn feed(
     places: Slate,
     part: &[u8],
     last: bool,
+    body: u64,
     classes4: &[u8],
     marks4: &[u8],
     pairs4: &[i16],
@@ -233,12 +250,13 @@ pub fn feed(
     extras: &[i16],
     weights: &[i32],
 ) -> Slate
-    ensures { λ r. ⌜ r ≡ slateFed (tables (now (classes4 .entry)) (now (marks4 .entry)) (now (pairs4 .entry)) (now (classes5 .entry)) (now (marks5 .entry)) (now (pairs5 .entry)) (now (classes6 .entry)) (now (marks6 .entry)) (now (pairs6 .entry)) (now (classes7 .entry)) (now (marks7 .entry)) (now (pairs7 .entry)) (now (big5 .entry)) (now (euckr .entry)) (now (jis .entry)) (now (extras .entry)) (now (weights .entry))) last (now (part .entry)) places ⌝ }
-    ensures { λ r. ⌜ SlateKnown (tables (now (classes4 .entry)) (now (marks4 .entry)) (now (pairs4 .entry)) (now (classes5 .entry)) (now (marks5 .entry)) (now (pairs5 .entry)) (now (classes6 .entry)) (now (marks6 .entry)) (now (pairs6 .entry)) (now (classes7 .entry)) (now (marks7 .entry)) (now (pairs7 .entry)) (now (big5 .entry)) (now (euckr .entry)) (now (jis .entry)) (now (extras .entry)) (now (weights .entry))) last (now (part .entry)) places ⌝ }
+    ensures { λ r. ⌜ r ≡ slateFed (tables (now (classes4 .entry)) (now (marks4 .entry)) (now (pairs4 .entry)) (now (classes5 .entry)) (now (marks5 .entry)) (now (pairs5 .entry)) (now (classes6 .entry)) (now (marks6 .entry)) (now (pairs6 .entry)) (now (classes7 .entry)) (now (marks7 .entry)) (now (pairs7 .entry)) (now (big5 .entry)) (now (euckr .entry)) (now (jis .entry)) (now (extras .entry)) (now (weights .entry))) last body (now (part .entry)) places ⌝ }
+    ensures { λ r. ⌜ SlateKnown (tables (now (classes4 .entry)) (now (marks4 .entry)) (now (pairs4 .entry)) (now (classes5 .entry)) (now (marks5 .entry)) (now (pairs5 .entry)) (now (classes6 .entry)) (now (marks6 .entry)) (now (pairs6 .entry)) (now (classes7 .entry)) (now (marks7 .entry)) (now (pairs7 .entry)) (now (big5 .entry)) (now (euckr .entry)) (now (jis .entry)) (now (extras .entry)) (now (weights .entry))) last body (now (part .entry)) places ⌝ }
 {
     let fed = feed_each(
         places,
         part,
+        body,
         classes4,
         marks4,
         pairs4,
@@ -260,6 +278,7 @@ pub fn feed(
     if last {
         return end_each(
             fed,
+            body,
             classes4,
             marks4,
             pairs4,
@@ -282,12 +301,13 @@ pub fn feed(
     fed
 }
 
-// A few bytes, and then a part of a chunk.
+// A few bytes of the head, and then a part of a chunk.
 pub fn feed_after(
     places: Slate,
     before: &[u8],
     part: &[u8],
     last: bool,
+    body: u64,
     classes4: &[u8],
     marks4: &[u8],
     pairs4: &[i16],
@@ -306,13 +326,14 @@ pub fn feed_after(
     extras: &[i16],
     weights: &[i32],
 ) -> Slate
-    ensures { λ r. ⌜ r ≡ slateFed (tables (now (classes4 .entry)) (now (marks4 .entry)) (now (pairs4 .entry)) (now (classes5 .entry)) (now (marks5 .entry)) (now (pairs5 .entry)) (now (classes6 .entry)) (now (marks6 .entry)) (now (pairs6 .entry)) (now (classes7 .entry)) (now (marks7 .entry)) (now (pairs7 .entry)) (now (big5 .entry)) (now (euckr .entry)) (now (jis .entry)) (now (extras .entry)) (now (weights .entry))) last (now (part .entry)) (fedEach (tables (now (classes4 .entry)) (now (marks4 .entry)) (now (pairs4 .entry)) (now (classes5 .entry)) (now (marks5 .entry)) (now (pairs5 .entry)) (now (classes6 .entry)) (now (marks6 .entry)) (now (pairs6 .entry)) (now (classes7 .entry)) (now (marks7 .entry)) (now (pairs7 .entry)) (now (big5 .entry)) (now (euckr .entry)) (now (jis .entry)) (now (extras .entry)) (now (weights .entry))) (now (before .entry)) places) ⌝ }
-    ensures { λ r. ⌜ (AllKnown (tables (now (classes4 .entry)) (now (marks4 .entry)) (now (pairs4 .entry)) (now (classes5 .entry)) (now (marks5 .entry)) (now (pairs5 .entry)) (now (classes6 .entry)) (now (marks6 .entry)) (now (pairs6 .entry)) (now (classes7 .entry)) (now (marks7 .entry)) (now (pairs7 .entry)) (now (big5 .entry)) (now (euckr .entry)) (now (jis .entry)) (now (extras .entry)) (now (weights .entry))) (now (before .entry)) places) × SlateKnown (tables (now (classes4 .entry)) (now (marks4 .entry)) (now (pairs4 .entry)) (now (classes5 .entry)) (now (marks5 .entry)) (now (pairs5 .entry)) (now (classes6 .entry)) (now (marks6 .entry)) (now (pairs6 .entry)) (now (classes7 .entry)) (now (marks7 .entry)) (now (pairs7 .entry)) (now (big5 .entry)) (now (euckr .entry)) (now (jis .entry)) (now (extras .entry)) (now (weights .entry))) last (now (part .entry)) (fedEach (tables (now (classes4 .entry)) (now (marks4 .entry)) (now (pairs4 .entry)) (now (classes5 .entry)) (now (marks5 .entry)) (now (pairs5 .entry)) (now (classes6 .entry)) (now (marks6 .entry)) (now (pairs6 .entry)) (now (classes7 .entry)) (now (marks7 .entry)) (now (pairs7 .entry)) (now (big5 .entry)) (now (euckr .entry)) (now (jis .entry)) (now (extras .entry)) (now (weights .entry))) (now (before .entry)) places) ⌝ }
+    ensures { λ r. ⌜ r ≡ slateFed (tables (now (classes4 .entry)) (now (marks4 .entry)) (now (pairs4 .entry)) (now (classes5 .entry)) (now (marks5 .entry)) (now (pairs5 .entry)) (now (classes6 .entry)) (now (marks6 .entry)) (now (pairs6 .entry)) (now (classes7 .entry)) (now (marks7 .entry)) (now (pairs7 .entry)) (now (big5 .entry)) (now (euckr .entry)) (now (jis .entry)) (now (extras .entry)) (now (weights .entry))) last body (now (part .entry)) (fedEach (tables (now (classes4 .entry)) (now (marks4 .entry)) (now (pairs4 .entry)) (now (classes5 .entry)) (now (marks5 .entry)) (now (pairs5 .entry)) (now (classes6 .entry)) (now (marks6 .entry)) (now (pairs6 .entry)) (now (classes7 .entry)) (now (marks7 .entry)) (now (pairs7 .entry)) (now (big5 .entry)) (now (euckr .entry)) (now (jis .entry)) (now (extras .entry)) (now (weights .entry))) 0 (now (before .entry)) places) ⌝ }
+    ensures { λ r. ⌜ (AllKnown (tables (now (classes4 .entry)) (now (marks4 .entry)) (now (pairs4 .entry)) (now (classes5 .entry)) (now (marks5 .entry)) (now (pairs5 .entry)) (now (classes6 .entry)) (now (marks6 .entry)) (now (pairs6 .entry)) (now (classes7 .entry)) (now (marks7 .entry)) (now (pairs7 .entry)) (now (big5 .entry)) (now (euckr .entry)) (now (jis .entry)) (now (extras .entry)) (now (weights .entry))) (now (before .entry)) places) × SlateKnown (tables (now (classes4 .entry)) (now (marks4 .entry)) (now (pairs4 .entry)) (now (classes5 .entry)) (now (marks5 .entry)) (now (pairs5 .entry)) (now (classes6 .entry)) (now (marks6 .entry)) (now (pairs6 .entry)) (now (classes7 .entry)) (now (marks7 .entry)) (now (pairs7 .entry)) (now (big5 .entry)) (now (euckr .entry)) (now (jis .entry)) (now (extras .entry)) (now (weights .entry))) last body (now (part .entry)) (fedEach (tables (now (classes4 .entry)) (now (marks4 .entry)) (now (pairs4 .entry)) (now (classes5 .entry)) (now (marks5 .entry)) (now (pairs5 .entry)) (now (classes6 .entry)) (now (marks6 .entry)) (now (pairs6 .entry)) (now (classes7 .entry)) (now (marks7 .entry)) (now (pairs7 .entry)) (now (big5 .entry)) (now (euckr .entry)) (now (jis .entry)) (now (extras .entry)) (now (weights .entry))) 0 (now (before .entry)) places) ⌝ }
 {
     let fed = feed_both(
         places,
         before,
         part,
+        body,
         classes4,
         marks4,
         pairs4,
@@ -334,6 +355,7 @@ pub fn feed_after(
     if last {
         return end_each(
             fed,
+            body,
             classes4,
             marks4,
             pairs4,

@@ -12,7 +12,8 @@ use Rattle.weights.specs.Weights.{indexOf, case}
 use Rattle.context.specs.Head.{headOf}
 use Rattle.tables.specs.Tables.{Tables, tables}
 use Rattle.state.specs.State.{startOf}
-use Rattle.privacy.specs.Privacy.{Call, call, afterCalls, ClosedStream, streamOf, restOf, InEach, No255, NoLetter, NoShift, Agree}
+use Rattle.detector.specs.Stream.{restOf}
+use Rattle.privacy.specs.Privacy.{Call, call, afterCalls, ClosedStream, streamOf, InEach, No255, NoLetter, NoShift, Agree}
 
 -- ---- two streams that do not agree
 pub record Fails (t : Tables) (bits : ℕ) (one two : List Call) (kept : Type 0) : Type 0 where

@@ -12,7 +12,9 @@ use Rattle.laws.specs.Carried.{carried}
 use Rattle.laws.specs.Limit.{limit}
 use Rattle.laws.specs.Lists.{any, count, last}
 use Rattle.laws.specs.Memory.{all}
-use Rattle.laws.specs.Run.{plus, withByte, run, ended}
+use Rattle.laws.specs.Run.{plus, takes, withByte, run, endsAt}
+use Rattle.laws.specs.declared.Reason.{Reason}
+use Rattle.laws.specs.declared.Reason.the-variants.{Class255, BadByte}
 use Rattle.laws.specs.Tests.{both, off}
 use Rattle.lengths.specs.Lengths.{classCount, markCount, pairCount, big5Count, eucKrCount, jisCount, extraCount, weightCount}
 use Rattle.context.specs.Context.{pushOf}
@@ -27,7 +29,7 @@ use Rattle.tables.specs.Tables.{Single, Tables, tables, Sized}
 use Rattle.kinds.specs.Kinds.{stepOf, closeOf}
 use Rattle.kinds.specs.declared.machine.Machine.{Machine}
 use Rattle.kinds.specs.declared.machine.Machine.the-variants.{Utf8, Iso2022Jp, EucKr, Big5, Caseless, Logical, Visual, ArabicFrench}
-use Rattle.places.specs.Place.{place, placeAs, fedFrom, feedOf as feedPlace}
+use Rattle.places.specs.Place.{place, placeAs, ranFrom, endFrom, feedOf as feedPlace}
 use Rattle.places.specs.Slate as slate
 use Rattle.places.specs.SlateLaws.{feed-at}
 use Rattle.places.specs.declared.place.Place.{Place}
@@ -40,7 +42,7 @@ use Rattle.detector.specs.FeedLaws.{fit-accepted, first-passed}
 use Rattle.detector.specs.Front.{none, reachesAt, reachesBy, reachesOf, triggerOf, contextBy, escBy}
 use Rattle.detector.specs.Kept.{Passed}
 use Rattle.detector.specs.OrderLaws.{advance-in-order}
-use Rattle.detector.specs.Stream.{reachedBy}
+use Rattle.detector.specs.Stream.{reachedBy, restOf}
 use Rattle.detector.specs.declared.feed.Fed.{Fed}
 use Rattle.privacy.specs.Needed.{Fails, SameHeads, whole, inTwo, allIn, zeros, noScores, lentWith, nothingLent, barred, lettered, latin, afterA, afterSpace, cut, uncut, shiftCut, shiftUncut, EachNeeded}
 use Rattle.privacy.specs.PlacesLaws.{stream-places}
@@ -115,33 +117,34 @@ module _ (t : Tables) (z : Sized t) (bits : ℕ) where
 
 -- ---- what a closed stream leaves in place k, of what reached the places
 abbrev other : Place
-other = place (Utf8 utf-8.fresh) None
+other = place (Utf8 utf-8.fresh) (Live (pos 0))
 
--- what reaches the places of a stream with a trigger
-pub record ReachedBy (calls : List Call) (xs : List ℕ) : Type 0 where
+-- what reaches the places of a stream with a trigger, and how many bytes it has from the end of the head on
+pub record ReachedBy (calls : List Call) (body : ℕ) (xs : List ℕ) : Type 0 where
   pub met : any isTrigger (streamOf calls) ≡ true
   pub reached : reachedBy fresh (chunksOf calls) ≡ xs
+  pub rest : length (restOf (streamOf calls)) ≡ body
 
-abbrev leftIn : Tables → ℕ → List ℕ → Place
-leftIn t k xs = feedPlace (ownOf t k) true xs (getD (slate.startOf allIn) k other)
+abbrev leftIn : Tables → ℕ → ℕ → List ℕ → Place
+leftIn t k body xs = feedPlace (ownOf t k) true body xs (getD (slate.startOf allIn) k other)
 
-left-at : (t : Tables) (calls : List Call) → ClosedStream t allIn calls → (xs : List ℕ) → ReachedBy calls xs → (k : ℕ) → k < 8 → getD (afterCalls t (startOf allIn) calls .places) k other ≡ leftIn t k xs
+left-at : (t : Tables) (calls : List Call) → ClosedStream t allIn calls → (body : ℕ) (xs : List ℕ) → ReachedBy calls body xs → (k : ℕ) → k < 8 → getD (afterCalls t (startOf allIn) calls .places) k other ≡ leftIn t k body xs
 unfolding slate.startOf
-left-at t calls closed xs r k h =
-    let e : afterCalls t (startOf allIn) calls .places ≡ slate.feedAll t true xs (slate.startOf allIn) = stream-places t allIn calls closed ∙ rw (r .met, r .reached) in
-    ap (λ (ps : List Place). getD ps k other) e ∙ feed-at t true xs (slate.startOf allIn) other k h
+left-at t calls closed body xs r k h =
+    let e : afterCalls t (startOf allIn) calls .places ≡ slate.feedAll t true body xs (slate.startOf allIn) = stream-places t allIn calls closed ∙ rw (r .met, r .reached, r .rest) in
+    ap (λ (ps : List Place). getD ps k other) e ∙ feed-at t true body xs (slate.startOf allIn) other k h
 
-module _ (t : Tables) (one two : List Call) (c : ClosedStream t allIn one) (d : ClosedStream t allIn two) (xs ys : List ℕ) (r : ReachedBy one xs) (q : ReachedBy two ys) (k : ℕ) (h : k < 8) where
-  places-differ : {A : Type 0} (f : Place → A) → (f (leftIn t k xs) ≡ f (leftIn t k ys) → ⊥) → (Agree (afterCalls t (startOf allIn) one) (afterCalls t (startOf allIn) two) → f (getD (afterCalls t (startOf allIn) one .places) k other) ≡ f (getD (afterCalls t (startOf allIn) two .places) k other)) → Agree (afterCalls t (startOf allIn) one) (afterCalls t (startOf allIn) two) → ⊥
-  places-differ f apart same a = apart (ap f (sym (left-at t one c xs r k h)) ∙ (same a ∙ ap f (left-at t two d ys q k h)))
+module _ (t : Tables) (one two : List Call) (c : ClosedStream t allIn one) (d : ClosedStream t allIn two) (body : ℕ) (xs ys : List ℕ) (r : ReachedBy one body xs) (q : ReachedBy two body ys) (k : ℕ) (h : k < 8) where
+  places-differ : {A : Type 0} (f : Place → A) → (f (leftIn t k body xs) ≡ f (leftIn t k body ys) → ⊥) → (Agree (afterCalls t (startOf allIn) one) (afterCalls t (startOf allIn) two) → f (getD (afterCalls t (startOf allIn) one .places) k other) ≡ f (getD (afterCalls t (startOf allIn) two .places) k other)) → Agree (afterCalls t (startOf allIn) one) (afterCalls t (startOf allIn) two) → ⊥
+  places-differ f apart same a = apart (ap f (sym (left-at t one c body xs r k h)) ∙ (same a ∙ ap f (left-at t two d body ys q k h)))
 
-  scores-differ : (leftIn t k xs .score ≡ leftIn t k ys .score → ⊥) → Agree (afterCalls t (startOf allIn) one) (afterCalls t (startOf allIn) two) → ⊥
+  scores-differ : (leftIn t k body xs .score ≡ leftIn t k body ys .score → ⊥) → Agree (afterCalls t (startOf allIn) one) (afterCalls t (startOf allIn) two) → ⊥
   scores-differ apart a = places-differ (λ (p : Place). p .score) apart (λ b. b .scores k other) a
 
-  records-differ : (leftIn t k xs .machine ≡ leftIn t k ys .machine → ⊥) → Agree (afterCalls t (startOf allIn) one) (afterCalls t (startOf allIn) two) → ⊥
+  records-differ : (leftIn t k body xs .machine ≡ leftIn t k body ys .machine → ⊥) → Agree (afterCalls t (startOf allIn) one) (afterCalls t (startOf allIn) two) → ⊥
   records-differ apart a = places-differ (λ (p : Place). p .machine) apart (λ b. b .records k other) a
 
-none-live : {n : ℤ} → None ≡ Live n → ⊥
+none-live : {d : Reason} {at : ℕ} {n : ℤ} → None d at ≡ Live n → ⊥
 none-live e = let z : _≡_ {A = ℕ} 0 1 = cc in omega arith
 
 -- ---- the same last two
@@ -151,24 +154,24 @@ latin-sized = with-sized _ _ _ (simp length-set (zeros-length classCount)) (zero
 one-apart : Live (pos 1) ≡ Live (pos 0) → ⊥
 one-apart e = let z : _≡_ {A = ℕ} 1 0 = cc in omega arith
 
-after-capitals : leftIn latin 7 (0x41 ∷ 0x42 ∷ 0xE9 ∷ []) .score ≡ Live (pos 1)
-unfolding slate.startOf fedFrom placeAs run withByte plus ended stepOf closeOf carried arabicFrench.stepOf pairGainOf adjacentOf zeros noScores
+after-capitals : leftIn latin 7 1 (0x41 ∷ 0x42 ∷ 0xE9 ∷ []) .score ≡ Live (pos 1)
+unfolding slate.startOf ranFrom endFrom placeAs run endsAt takes withByte plus stepOf closeOf carried arabicFrench.stepOf pairGainOf adjacentOf zeros noScores
 after-capitals = refl
 
-after-space : leftIn latin 7 (0x20 ∷ 0x42 ∷ 0xE9 ∷ []) .score ≡ Live (pos 0)
-unfolding slate.startOf fedFrom placeAs run withByte plus ended stepOf closeOf carried arabicFrench.stepOf pairGainOf adjacentOf zeros noScores
+after-space : leftIn latin 7 1 (0x20 ∷ 0x42 ∷ 0xE9 ∷ []) .score ≡ Live (pos 0)
+unfolding slate.startOf ranFrom endFrom placeAs run endsAt takes withByte plus stepOf closeOf carried arabicFrench.stepOf pairGainOf adjacentOf zeros noScores
 after-space = refl
 
 -- ---- class 255, and an alphabetic class, at the third byte
 barred-sized : Sized barred
 barred-sized = with-sized _ _ _ (simp length-set (zeros-length classCount)) (zeros-length markCount) (noScores-length weightCount)
 
-with-41 : leftIn barred 4 (0x41 ∷ 0x20 ∷ 0x20 ∷ 0xE9 ∷ []) .score ≡ None
-unfolding slate.startOf fedFrom placeAs run withByte plus ended stepOf closeOf carried caseless.stepOf pairGainOf adjacentOf zeros noScores
+with-41 : leftIn barred 4 1 (0x41 ∷ 0x20 ∷ 0x20 ∷ 0xE9 ∷ []) .score ≡ None Class255 0
+unfolding slate.startOf ranFrom endFrom placeAs run endsAt takes withByte plus stepOf closeOf carried caseless.stepOf pairGainOf adjacentOf zeros noScores
 with-41 = refl
 
-without-41 : leftIn barred 4 (0x20 ∷ 0x20 ∷ 0xE9 ∷ []) .score ≡ Live (pos 0)
-unfolding slate.startOf fedFrom placeAs run withByte plus ended stepOf closeOf carried caseless.stepOf pairGainOf adjacentOf zeros noScores
+without-41 : leftIn barred 4 1 (0x20 ∷ 0x20 ∷ 0xE9 ∷ []) .score ≡ Live (pos 0)
+unfolding slate.startOf ranFrom endFrom placeAs run endsAt takes withByte plus stepOf closeOf carried caseless.stepOf pairGainOf adjacentOf zeros noScores
 without-41 = refl
 
 lettered-sized : Sized lettered
@@ -185,44 +188,44 @@ longest (Logical m) = 0
 longest (Visual m) = 0
 longest (ArabicFrench m) = 0
 
-word-of-41 : longest (leftIn lettered 4 (0x41 ∷ 0x20 ∷ 0x20 ∷ 0xE9 ∷ []) .machine) ≡ 1
-unfolding slate.startOf fedFrom placeAs run withByte plus ended stepOf closeOf carried caseless.stepOf pairGainOf adjacentOf zeros noScores
+word-of-41 : longest (leftIn lettered 4 1 (0x41 ∷ 0x20 ∷ 0x20 ∷ 0xE9 ∷ []) .machine) ≡ 1
+unfolding slate.startOf ranFrom endFrom placeAs run endsAt takes withByte plus stepOf closeOf carried caseless.stepOf pairGainOf adjacentOf zeros noScores
 word-of-41 = refl
 
 word-apart : _≡_ {A = ℕ} 1 0 → ⊥
 word-apart e = omega arith
 
-no-word : longest (leftIn lettered 4 (0x20 ∷ 0x20 ∷ 0xE9 ∷ []) .machine) ≡ 0
-unfolding slate.startOf fedFrom placeAs run withByte plus ended stepOf closeOf carried caseless.stepOf pairGainOf adjacentOf zeros noScores
+no-word : longest (leftIn lettered 4 1 (0x20 ∷ 0x20 ∷ 0xE9 ∷ []) .machine) ≡ 0
+unfolding slate.startOf ranFrom endFrom placeAs run endsAt takes withByte plus stepOf closeOf carried caseless.stepOf pairGainOf adjacentOf zeros noScores
 no-word = refl
 
 -- ---- 0E and 0F at the third byte
 nothing-sized : Sized nothingLent
 nothing-sized = with-sized _ _ _ (zeros-length classCount) (zeros-length markCount) (noScores-length weightCount)
 
-with-0e : leftIn nothingLent 1 (0x0E ∷ 0x20 ∷ 0x20 ∷ 0x1B ∷ 0x28 ∷ 0x42 ∷ []) .score ≡ None
-unfolding slate.startOf fedFrom placeAs run withByte plus ended stepOf closeOf carried stepIn asciiOf isText escapeStartOf designated stateOf escapedTo closeIn any
+with-0e : leftIn nothingLent 1 3 (0x0E ∷ 0x20 ∷ 0x20 ∷ 0x1B ∷ 0x28 ∷ 0x42 ∷ []) .score ≡ None BadByte 0
+unfolding slate.startOf ranFrom endFrom placeAs run endsAt takes withByte plus stepOf closeOf carried stepIn asciiOf isText escapeStartOf designated stateOf escapedTo closeIn any
 with-0e = refl
 
-with-0f : leftIn nothingLent 1 (0x0F ∷ 0x20 ∷ 0x20 ∷ 0x1B ∷ 0x28 ∷ 0x42 ∷ []) .score ≡ None
-unfolding slate.startOf fedFrom placeAs run withByte plus ended stepOf closeOf carried stepIn asciiOf isText escapeStartOf designated stateOf escapedTo closeIn any
+with-0f : leftIn nothingLent 1 3 (0x0F ∷ 0x20 ∷ 0x20 ∷ 0x1B ∷ 0x28 ∷ 0x42 ∷ []) .score ≡ None BadByte 0
+unfolding slate.startOf ranFrom endFrom placeAs run endsAt takes withByte plus stepOf closeOf carried stepIn asciiOf isText escapeStartOf designated stateOf escapedTo closeIn any
 with-0f = refl
 
-without-shift : leftIn nothingLent 1 (0x20 ∷ 0x20 ∷ 0x1B ∷ 0x28 ∷ 0x42 ∷ []) .score ≡ Live (pos 0)
-unfolding slate.startOf fedFrom placeAs run withByte plus ended stepOf closeOf carried stepIn asciiOf isText escapeStartOf designated stateOf escapedTo closeIn any
+without-shift : leftIn nothingLent 1 3 (0x20 ∷ 0x20 ∷ 0x1B ∷ 0x28 ∷ 0x42 ∷ []) .score ≡ Live (pos 0)
+unfolding slate.startOf ranFrom endFrom placeAs run endsAt takes withByte plus stepOf closeOf carried stepIn asciiOf isText escapeStartOf designated stateOf escapedTo closeIn any
 without-shift = refl
 
 -- ---- all
 four : {A : Type 0} → A → A × (A × (A × (A × Unit {0})))
 four a = (a, (a, (a, (a, tt))))
 
-cut-reached : ReachedBy cut (0x41 ∷ 0x20 ∷ 0x20 ∷ 0xE9 ∷ [])
+cut-reached : ReachedBy cut 1 (0x41 ∷ 0x20 ∷ 0x20 ∷ 0xE9 ∷ [])
 unfolding any flatten reachedBy reachesBy reachesAt triggerOf scanOf headOf contextBy escBy pushOf last count
-cut-reached = record { met = refl; reached = refl }
+cut-reached = record { met = refl; reached = refl; rest = refl }
 
-uncut-reached : ReachedBy uncut (0x20 ∷ 0x20 ∷ 0xE9 ∷ [])
+uncut-reached : ReachedBy uncut 1 (0x20 ∷ 0x20 ∷ 0xE9 ∷ [])
 unfolding any flatten reachedBy reachesBy reachesAt triggerOf scanOf headOf
-uncut-reached = record { met = refl; reached = refl }
+uncut-reached = record { met = refl; reached = refl; rest = refl }
 
 cut-closed : (t : Tables) → Sized t → ClosedStream t allIn cut
 unfolding reachesBy triggerOf scanOf headOf
@@ -241,7 +244,7 @@ plain-nothing : No255 (nothingLent .caseless)
 unfolding all zeros
 plain-nothing = below-255 (nothingLent .caseless) refl
 
-shift-fails : (b : ℕ) → reachesOf fresh (b ∷ 0x20 ∷ []) ≡ none → ReachedBy (shiftCut b) (b ∷ 0x20 ∷ 0x20 ∷ 0x1B ∷ 0x28 ∷ 0x42 ∷ []) → ReachedBy (shiftUncut b) (0x20 ∷ 0x20 ∷ 0x1B ∷ 0x28 ∷ 0x42 ∷ []) → leftIn nothingLent 1 (b ∷ 0x20 ∷ 0x20 ∷ 0x1B ∷ 0x28 ∷ 0x42 ∷ []) .score ≡ None → Fails nothingLent allIn (shiftCut b) (shiftUncut b) (SameHeads (shiftCut b) (shiftUncut b) × (InEach No255 nothingLent × InEach NoLetter nothingLent))
+shift-fails : (b : ℕ) → reachesOf fresh (b ∷ 0x20 ∷ []) ≡ none → ReachedBy (shiftCut b) 3 (b ∷ 0x20 ∷ 0x20 ∷ 0x1B ∷ 0x28 ∷ 0x42 ∷ []) → ReachedBy (shiftUncut b) 3 (0x20 ∷ 0x20 ∷ 0x1B ∷ 0x28 ∷ 0x42 ∷ []) → leftIn nothingLent 1 3 (b ∷ 0x20 ∷ 0x20 ∷ 0x1B ∷ 0x28 ∷ 0x42 ∷ []) .score ≡ None BadByte 0 → Fails nothingLent allIn (shiftCut b) (shiftUncut b) (SameHeads (shiftCut b) (shiftUncut b) × (InEach No255 nothingLent × InEach NoLetter nothingLent))
 unfolding flatten
 shift-fails b saved r q gone =
     let one = two-closed nothingLent nothing-sized allIn (b ∷ 0x20 ∷ []) (0x20 ∷ 0x1B ∷ 0x28 ∷ 0x42 ∷ []) saved (omega arith) in
@@ -251,7 +254,7 @@ shift-fails b saved r q gone =
       two-closed = two;
       rests = refl;
       others = (refl, (four plain-nothing, four (unmarked (nothingLent .caseless) refl)));
-      differ = scores-differ nothingLent (shiftCut b) (shiftUncut b) one two _ _ r q 1 (omega arith) (λ e. none-live (sym gone ∙ (e ∙ without-shift)));
+      differ = scores-differ nothingLent (shiftCut b) (shiftUncut b) one two 3 _ _ r q 1 (omega arith) (λ e. none-live (sym gone ∙ (e ∙ without-shift)));
     }
 
 -- Each premise is needed.
@@ -267,16 +270,16 @@ each-needed =
             two-closed = spaced;
             rests = refl;
             others = (refl, (four (below-255 (latin .caseless) refl), (four (unmarked (latin .caseless) refl), (refl, refl))));
-            differ = scores-differ latin afterA afterSpace capitals spaced (0x41 ∷ 0x42 ∷ 0xE9 ∷ []) (0x20 ∷ 0x42 ∷ 0xE9 ∷ []) (record { met = refl; reached = refl }) (record { met = refl; reached = refl }) 7 (omega arith) (λ e. one-apart (sym after-capitals ∙ (e ∙ after-space)));
+            differ = scores-differ latin afterA afterSpace capitals spaced 1 (0x41 ∷ 0x42 ∷ 0xE9 ∷ []) (0x20 ∷ 0x42 ∷ 0xE9 ∷ []) (record { met = refl; reached = refl; rest = refl }) (record { met = refl; reached = refl; rest = refl }) 7 (omega arith) (λ e. one-apart (sym after-capitals ∙ (e ∙ after-space)));
           };
       class-255 =
           cut-fails barred barred-sized _ (refl, (four (unmarked (barred .caseless) refl), (refl, refl)))
-          (scores-differ barred cut uncut (cut-closed barred barred-sized) (uncut-closed barred barred-sized) _ _ cut-reached uncut-reached 4 (omega arith) (λ e. none-live (sym with-41 ∙ (e ∙ without-41))));
+          (scores-differ barred cut uncut (cut-closed barred barred-sized) (uncut-closed barred barred-sized) 1 _ _ cut-reached uncut-reached 4 (omega arith) (λ e. none-live (sym with-41 ∙ (e ∙ without-41))));
       alphabetic =
           cut-fails lettered lettered-sized _ (refl, (four (below-255 (lettered .caseless) refl), (refl, refl)))
-          (records-differ lettered cut uncut (cut-closed lettered lettered-sized) (uncut-closed lettered lettered-sized) _ _ cut-reached uncut-reached 4 (omega arith) (λ e. word-apart (sym word-of-41 ∙ (ap longest e ∙ no-word))));
-      shift-out = shift-fails 0x0E refl (record { met = refl; reached = refl }) (record { met = refl; reached = refl }) with-0e;
-      shift-in = shift-fails 0x0F refl (record { met = refl; reached = refl }) (record { met = refl; reached = refl }) with-0f;
+          (records-differ lettered cut uncut (cut-closed lettered lettered-sized) (uncut-closed lettered lettered-sized) 1 _ _ cut-reached uncut-reached 4 (omega arith) (λ e. word-apart (sym word-of-41 ∙ (ap longest e ∙ no-word))));
+      shift-out = shift-fails 0x0E refl (record { met = refl; reached = refl; rest = refl }) (record { met = refl; reached = refl; rest = refl }) with-0e;
+      shift-in = shift-fails 0x0F refl (record { met = refl; reached = refl; rest = refl }) (record { met = refl; reached = refl; rest = refl }) with-0f;
     }
 
 -- ---- and they can be met, by heads that differ in their length and in all but their last two bytes, cut differently

@@ -5,7 +5,7 @@ use mathlib.Core.List.{List, [], _∷_, map, flatten}
 use mathlib.Core.Logic.{_⊎_}
 use Prim.Native.Nat.{ℕ, _%_, _≤_}
 use lib.Dec.{eqb}
-use lib.ListN.{length, getD, drop}
+use lib.ListN.{length, getD}
 use Rattle.laws.specs.Each.{EachFrom}
 use Rattle.laws.specs.Lists.{any, last}
 use Rattle.octets.specs.Octets.{ascii}
@@ -19,6 +19,7 @@ use Rattle.state.specs.Reply.{numberOf}
 use Rattle.state.specs.State.{startOf}
 use Rattle.state.specs.declared.State.{State}
 use Rattle.detector.specs.Feed.{feedOf}
+use Rattle.detector.specs.Stream.{restOf}
 
 -- ---- a stream is a list of calls, so that its cuts are visible
 pub record Call : Type 0 where
@@ -55,10 +56,6 @@ chunksOf calls = map (λ (c : Call). c .chunk) calls
 
 abbrev pub streamOf : List Call → List ℕ
 streamOf calls = flatten (chunksOf calls)
-
--- what `headOf` leaves
-abbrev pub restOf : List ℕ → List ℕ
-restOf xs = drop (length (headOf xs)) xs
 
 -- ---- the premises on heads and tables
 -- both have two bytes or more, and the same last two
@@ -99,7 +96,7 @@ pub record Premises (t : Tables) (bits : ℕ) (one two : List Call) : Type 0 whe
 
 -- ---- what agrees
 pub record Agree (one two : State) : Type 0 where
-  -- every place's score, or that it has none
+  -- every place's score, or for what reason and at which byte it has none
   pub scores : (k : ℕ) (d : Place) → getD (one .places) k d .score ≡ getD (two .places) k d .score
   -- every place's record
   pub records : (k : ℕ) (d : Place) → getD (one .places) k d .machine ≡ getD (two .places) k d .machine

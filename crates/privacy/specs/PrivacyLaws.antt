@@ -26,9 +26,10 @@ use Rattle.state.specs.Leader.{leaderOf}
 use Rattle.state.specs.State.{triggered, startOf}
 use Rattle.state.specs.declared.State.{State}
 use Rattle.state.specs.declared.front.Front.{Front}
+use Rattle.detector.specs.Stream.{restOf}
 use Rattle.detector.specs.StreamLaws.{stream-met, stream-counts}
 use Rattle.privacy.specs.PlacesLaws.{stream-front, stream-from-start}
-use Rattle.privacy.specs.Privacy.{Call, afterCalls, ClosedStream, chunksOf, streamOf, restOf, SameEnd, InEach, No255, NoLetter, NoShift, Premises, Agree, Privacy, CutAsYouLike}
+use Rattle.privacy.specs.Privacy.{Call, afterCalls, ClosedStream, chunksOf, streamOf, SameEnd, InEach, No255, NoLetter, NoShift, Premises, Agree, Privacy, CutAsYouLike}
 use Rattle.privacy.specs.SplitLaws.{trigger-in-rest, count-in-rest}
 
 -- ---- each place's tables meet the premises
@@ -77,7 +78,7 @@ module _ (head : List ℕ) (quiet : any isTrigger head ≡ false) (shiftless : N
 -- ---- one stream
 -- what the last two bytes of a head and a rest make of the places
 abbrev leftBy : Tables → ℕ → List ℕ → List ℕ → List Place
-leftBy t bits end rest = cond (any isTrigger rest) (feedAll t true (end ++ rest) (slate.startOf bits)) (slate.startOf bits)
+leftBy t bits end rest = cond (any isTrigger rest) (feedAll t true (length rest) (end ++ rest) (slate.startOf bits)) (slate.startOf bits)
 
 module _ (t : Tables) (bits : ℕ) (calls : List Call) (closed : ClosedStream t bits calls) where
   abbrev left : State
@@ -93,8 +94,8 @@ module _ (t : Tables) (bits : ℕ) (calls : List Call) (closed : ClosedStream t 
       let rest = restOf (streamOf calls) in
       let alike = ends-alike (headOf (streamOf calls)) (head-triggerless (streamOf calls)) shiftless (from .kept) (from .two) in
       from .is
-      ∙ (ap (λ (b : Bool). cond b (feedAll t true (last (from .kept) (headOf stream) ++ rest) start) start) (trigger-in-rest stream)
-      ∙ ap (λ (ps : List Place). cond (any isTrigger rest) ps start) (start-forgets (last (from .kept) (headOf stream)) (last 2 (headOf stream)) alike true rest t (all-plain t n l) bits))
+      ∙ (ap (λ (b : Bool). cond b (feedAll t true (length rest) (last (from .kept) (headOf stream) ++ rest) start) start) (trigger-in-rest stream)
+      ∙ ap (λ (ps : List Place). cond (any isTrigger rest) ps start) (start-forgets (last (from .kept) (headOf stream)) (last 2 (headOf stream)) alike true (length rest) rest t (all-plain t n l) bits))
 
   count-left : left .front .«non_ascii_seen» ≡ nonAsciiCount (restOf stream)
   count-left = ap (λ (f : Front). f .«non_ascii_seen») (stream-front t bits calls closed) ∙ (stream-counts (chunksOf calls) ∙ count-in-rest stream)

@@ -12,8 +12,7 @@ use Rattle.octets.specs.Octets.{nonAscii}
 use Rattle.context.specs.Head.{isTrigger, headOf, nonAsciiCount}
 use Rattle.context.specs.HeadLaws.{head-triggerless, head-take}
 use Rattle.detector.specs.FrontLaws.{triggerless-count}
-use Rattle.detector.specs.Stream.{Begins, FromHead}
-use Rattle.privacy.specs.Privacy.{restOf}
+use Rattle.detector.specs.Stream.{restOf, Begins, FromHead}
 
 -- ---- the only split into bytes without a trigger and what begins with one
 head-is : (head rest : List ℕ) → any isTrigger head ≡ false → Begins rest → headOf (head ++ rest) ≡ head

@@ -1,10 +1,12 @@
 // A state and how it is fed, as numbers in ten rows, one for each letter. Rows 0 to 7 are the places: k the machine's kind,
-// n 1 where there is no score, s the score, and the record's fields by the letters of oracle/README.md, a to e and x to z.
-// Row 8 is the front: a and b the bytes of the context and c its length, e the escape flag, y the non-ASCII count, x the
-// bytes accepted, z whether it is closed. Row 9 is the feed: a and b where the chunk begins and ends among the bytes of
-// `lent`, l whether it is the last, s which of the seventeen slices is one short and g which is one long, from 1 on.
+// s the score, or n 1 where there is none, and then r the reason and p the place of the byte; the record's fields and the
+// reasons by the letters and numbers of oracle/README.md, a to e and x to z. Row 8 is the front: a and b the bytes of the
+// context and c its length, e the escape flag, y the non-ASCII count, x the bytes accepted, d those of them from the end of
+// the head on, z whether it is closed. Row 9 is the feed: a and b where the chunk begins and ends among the bytes of `lent`,
+// l whether it is the last, s which of the seventeen slices is one short and g which is one long, from 1 on.
 // A number that is not set is that of a stream of ten bytes, one of them non-ASCII, with every place fresh at score 0, to
-// which four bytes are fed, not the last, over slices of the right lengths.
+// which four bytes are fed, not the last, over slices of the right lengths; but d is 0, which is in order in every stream. A
+// place without a score is not in the slate.
 use arabic_french::ArabicFrench;
 use arabic_french::LatinCaseState;
 use big5::Big5;
@@ -17,6 +19,7 @@ use iso2022jp::DecoderState;
 use iso2022jp::Iso2022Jp;
 use iso2022jp::OutputState;
 use kinds::machine::Machine;
+use laws::Reason;
 use logical::Logical;
 use pairs::Held;
 use places::place::Place;
@@ -192,9 +195,20 @@ fn machine(rows: &Rows, k: usize) -> Machine {
     }
 }
 
+fn reason(n: u64) -> Reason {
+    match n {
+        1 => Reason::Class255,
+        2 => Reason::BadByte,
+        3 => Reason::BadSecondByte,
+        4 => Reason::BrokenEscape,
+        5 => Reason::CutAtClose,
+        _ => Reason::NotInSlate,
+    }
+}
+
 fn score(rows: &Rows, k: usize) -> Score {
     if flag(rows, k, b'n', 0) {
-        return Score::None;
+        return Score::None(reason(number(rows, k, b'r', 6)), number(rows, k, b'p', 0));
     }
     Score::Live(signed::of_bits64(number(rows, k, b's', 0)))
 }
@@ -221,6 +235,7 @@ fn front(rows: &Rows) -> Front {
         non_ascii_seen: number(rows, 8, b'y', 1),
         closed: flag(rows, 8, b'z', 0),
         bytes: number(rows, 8, b'x', 10),
+        body: number(rows, 8, b'd', 0),
     }
 }
 

@@ -9,9 +9,9 @@ use Rattle.state.specs.Leader.{leaderOf}
 use Rattle.state.specs.declared.State.{State}
 use Rattle.state.specs.declared.leader.Leader as leader
 
--- a score with its sign and without leading zeros
+-- a score with its sign and without leading zeros; why there is none is not told
 unfoldable pub scoreText : score.Score → List ℕ
-scoreText score.the-variants.None = ascii "none"
+scoreText (score.the-variants.None d at) = ascii "none"
 scoreText (score.the-variants.Live n) = signedOf n
 
 -- the place with number k, by its score

@@ -29,7 +29,7 @@ fn score(out: &mut [u8], at: usize, score: Score) -> usize
     ensures { λ r. ⌜ page (now (out .exit)) r ≡ onto (page (now (out .entry)) at) (scoreText score) ⌝ }
 {
     match score {
-        Score::None => page::word(out, at, b"none"),
+        Score::None(_, _) => page::word(out, at, b"none"),
         Score::Live(n) => page::signed(out, at, n),
     }
 }

@@ -5,7 +5,8 @@ use Prim.Native.Nat.{ℕ}
 use lib.IntN.{ℤ}
 use lib.ListN.{length}
 use Rattle.laws.specs.Answer.{answeredIf}
-use Rattle.laws.specs.Run.{Outcome, alive, run}
+use Rattle.laws.specs.Run.{Outcome, alive, run, lastAt}
+use Rattle.laws.specs.declared.Reason.{Reason}
 use Rattle.single.specs.Class.{space}
 use Rattle.single.specs.Fit.{fitB}
 use Rattle.single.specs.Lent.{Lent}
@@ -14,9 +15,10 @@ use Rattle.single.specs.Lent.{Lent}
 abbrev pub closeBy : {S : Type 0} → (Lent → S → ℕ → Outcome S) → Lent → S → Outcome S
 closeBy step t m = step t m space
 
-module _ {S R : Type 0} (step : Lent → S → ℕ → Outcome S) (sound : S → Bool) (living : S → ℤ → R) (gone refused : R) (t : Lent) (m : S) where
+module _ {S R : Type 0} (step : Lent → S → ℕ → Outcome S) (sound : S → Bool) (living : S → ℤ → R) (gone : Reason → ℕ → R) (refused : R) (t : Lent) (m : S) where
   unfoldable pub ranBy : List ℕ → R
-  ranBy xs = answeredIf living gone refused (fitB t (sound m) (length xs)) (run (step t) (alive m) xs)
+  ranBy xs = answeredIf living gone refused (fitB t (sound m) (length xs)) (lastAt (step t) (alive m) xs) (run (step t) (alive m) xs)
 
+  -- a run over the space alone
   unfoldable pub closedBy : R
-  closedBy = answeredIf living gone refused (fitB t (sound m) 0) (closeBy step t m)
+  closedBy = answeredIf living gone refused (fitB t (sound m) 0) 0 (closeBy step t m)

@@ -4,7 +4,8 @@ use mathlib.Core.List.{List}
 use Prim.Native.Nat.{ℕ, _%_}
 use lib.Dec.{eqb, leb}
 use lib.ListN.{getD}
-use Rattle.laws.specs.Run.{Outcome, dropped}
+use Rattle.laws.specs.Run.{Outcome, none}
+use Rattle.laws.specs.declared.Reason.the-variants.{Class255}
 use Rattle.single.specs.Lent.{Lent}
 
 abbrev pub classOf : Lent → ℕ → ℕ
@@ -27,9 +28,9 @@ alphabeticOf marks k = not (eqb (getD marks k 0) 0)
 abbrev pub alphabetic : Lent → ℕ → Bool
 alphabetic t b = alphabeticOf (t .marks) (caselessOf t b)
 
--- none exactly at class 255
+-- none exactly at class 255, and for that reason
 abbrev pub unless255 : {S : Type 0} → Lent → ℕ → Outcome S → Outcome S
-unless255 t b o = cond (eqb (classOf t b) 255) dropped o
+unless255 t b o = cond (eqb (classOf t b) 255) (none Class255) o
 
 -- what the end of the stream counts as
 abbrev pub space : ℕ

@@ -20,7 +20,7 @@ againstBest best.None k n = best.Score k n
 againstBest (best.Score at most) k n = cond (ltZ most n) (best.Score k n) (best.Score at most)
 
 unfoldable pub betterOf : Best → ℕ → Score → Best
-betterOf b k score.None = b
+betterOf b k (score.None d at) = b
 betterOf b k (score.Live n) = againstBest b k n
 
 -- the places from k on

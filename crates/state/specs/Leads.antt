@@ -17,11 +17,11 @@ use Rattle.state.specs.declared.State.{State}
 
 -- none, or no greater than n; none, or less than n
 abbrev pub AtMost : ℤ → Score → Type 0
-AtMost n score.None = Unit {0}
+AtMost n (score.None d at) = Unit {0}
 AtMost n (score.Live m) = ltZ n m ≡ false
 
 abbrev pub Below : ℤ → Score → Type 0
-Below n score.None = Unit {0}
+Below n (score.None d at) = Unit {0}
 Below n (score.Live m) = ltZ m n ≡ true
 
 -- P of the score of each place below k
@@ -38,8 +38,12 @@ pub record Led (ps : List Place) (k : ℕ) : Type 0 where
   pub most : ℤ
   pub leads : Leads ps k most
 
+abbrev pub Dropped : Score → Type 0
+Dropped (score.None d at) = Unit {0}
+Dropped (score.Live n) = ⊥
+
 abbrev pub Scoreless : List Place → Type 0
-Scoreless ps = EachBelow (λ (s : Score). s ≡ score.None) (length ps) ps
+Scoreless ps = EachBelow Dropped (length ps) ps
 
 -- "ascii" before any trigger; after one "none" where no place has a score, else the place that leads
 abbrev pub LeaderFor : State → Leader → Type 0

@@ -17,7 +17,7 @@ use Rattle.places.specs.declared.place.Score.{Score}
 use Rattle.places.specs.declared.place.Score.the-variants as score
 use Rattle.state.specs.State.{triggered}
 use Rattle.state.specs.Leader.{againstBest, betterOf, bestFrom, leaderAs, leaderOf}
-use Rattle.state.specs.Leads.{AtMost, Below, EachBelow, Leads, Scoreless, LeaderFor}
+use Rattle.state.specs.Leads.{AtMost, Below, EachBelow, Leads, Dropped, Scoreless, LeaderFor}
 use Rattle.state.specs.declared.leader.Best.{Best}
 use Rattle.state.specs.declared.leader.Best.the-variants as best
 use Rattle.state.specs.declared.leader.Leader.the-variants.{Ascii}
@@ -54,11 +54,11 @@ through (negsuc x) (pos n) (negsuc m) p q = absurd (let z : _≡_ {A = ℕ} 0 1 
 through (negsuc x) (negsuc n) (negsuc m) p q = lt-ltb m x (omega (arith, ltb-false x n p, ltb-true m n q))
 
 most-below : (n m : ℤ) (s : Score) → ltZ n m ≡ true → AtMost n s → Below m s
-most-below n m score.None h a = tt
+most-below n m (score.None d at) h a = tt
 most-below n m (score.Live x) h a = through x n m a h
 
 below-most : (m : ℤ) (s : Score) → Below m s → AtMost m s
-below-most m score.None b = tt
+below-most m (score.None d at) b = tt
 below-most m (score.Live x) b = asymmetric x m b
 
 -- ---- one place more
@@ -110,24 +110,25 @@ module _ (ps : List Place) (p : Place) where
         lowest = each-old (Below n) k (omega (arith, l .within)) (l .lowest);
       }
 
-  none-below : (n : ℤ) (s : Score) → s ≡ score.None → Below n s
-  none-below n s e = subst (Below n) (sym e) tt
+  dropped-below : (n : ℤ) (s : Score) → Dropped s → Below n s
+  dropped-below n (score.None d at) h = tt
+  dropped-below n (score.Live m) h = absurd h
 
   against : (b : Best) (n : ℤ) → p .score ≡ score.Live n → IsBest ps b → IsBest more (againstBest b (length ps) n)
-  against best.None n e i = leads-new n e (each-to (λ (s : Score). s ≡ score.None) (Below n) (length ps) (none-below n) i)
+  against best.None n e i = leads-new n e (each-to Dropped (Below n) (length ps) (dropped-below n) i)
   against (best.Score k m) n e i = pick (ltZ m n) refl
     where
       pick : (t : Bool) → ltZ m n ≡ t → IsBest (ps ++ (p ∷ [])) (cond t (best.Score (length ps) n) (best.Score k m))
       pick true q = leads-new n e (each-to (AtMost m) (Below n) (length ps) (λ (s : Score) (a : AtMost m s). most-below m n s q a) (i .greatest))
       pick false q = leads-old k m i (subst (AtMost m) (sym e) q)
 
-  kept : (b : Best) → p .score ≡ score.None → IsBest ps b → IsBest more b
-  kept best.None e i = each-more (λ (s : Score). s ≡ score.None) i e
-  kept (best.Score k n) e i = leads-old k n i (subst (AtMost n) (sym e) tt)
+  kept : (b : Best) → Dropped (p .score) → IsBest ps b → IsBest more b
+  kept best.None h i = each-more Dropped i h
+  kept (best.Score k n) h i = leads-old k n i (below-most n (p .score) (dropped-below n (p .score) h))
 
   better-is : (b : Best) (s : Score) → p .score ≡ s → IsBest ps b → IsBest more (betterOf b (length ps) s)
   unfolding betterOf
-  better-is b score.None e i = kept b e i
+  better-is b (score.None d at) e i = kept b (subst Dropped (sym e) tt) i
   better-is b (score.Live n) e i = against b n e i
 
 -- ---- all places

@@ -18,16 +18,18 @@ pub record Saved (c : Context) : Type 0 where
   pub two : c .len ≤ 2
   pub triggerless : any isTrigger (bytesOf c) ≡ false
 
--- no more than the bytes accepted, which are at most the limit
+-- no more than the bytes accepted, which are at most the limit; before any trigger, no byte from the end of the head on
 pub record FrontFor (f : Front) : Type 0 where
   pub most : f .bytes ≤ limit
   pub counted : f .«non_ascii_seen» ≤ f .bytes
   pub held : f .context .len ≤ f .bytes
+  pub bodied : f .body ≤ f .bytes
+  pub headed : triggered f ≡ false → f .body ≡ 0
   pub saved : Saved (f .context)
 
 pub record InOrder (s : State) : Type 0 where
   pub front : FrontFor (s .front)
-  pub slate : SlateFor (s .front .bytes) (s .front .closed) (triggered (s .front)) (s .places)
+  pub slate : SlateFor (s .front .bytes) (s .front .body) (s .front .closed) (triggered (s .front)) (s .places)
 
 -- ---- the test
 -- no trigger
@@ -37,8 +39,11 @@ triggerlessB b = not (isTrigger b)
 unfoldable pub savedB : Context → Bool
 savedB c = leb (c .len) 2 && ((eqb (c .len) 0 || triggerlessB (c .first)) && (ltb (c .len) 2 || triggerlessB (c .second)))
 
+unfoldable pub bodyB : Front → Bool
+bodyB f = leb (f .body) (f .bytes) && (triggered f || eqb (f .body) 0)
+
 unfoldable pub frontB : Front → Bool
-frontB f = leb (f .bytes) limit && (leb (f .«non_ascii_seen») (f .bytes) && (leb (f .context .len) (f .bytes) && savedB (f .context)))
+frontB f = leb (f .bytes) limit && (leb (f .«non_ascii_seen») (f .bytes) && (leb (f .context .len) (f .bytes) && (bodyB f && savedB (f .context))))
 
 unfoldable pub stateB : State → Bool
-stateB s = frontB (s .front) && slateB (s .front .bytes) (s .front .closed) (triggered (s .front)) (s .places)
+stateB s = frontB (s .front) && slateB (s .front .bytes) (s .front .body) (s .front .closed) (triggered (s .front)) (s .places)

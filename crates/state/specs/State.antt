@@ -9,7 +9,7 @@ use Rattle.state.specs.declared.State.{State}
 use Rattle.state.specs.declared.front.Front.{Front}
 
 abbrev pub fresh : Front
-fresh = record { context = contextOf []; «esc_seen» = false; «non_ascii_seen» = 0; closed = false; bytes = 0 }
+fresh = record { context = contextOf []; «esc_seen» = false; «non_ascii_seen» = 0; closed = false; bytes = 0; body = 0 }
 
 -- whether any non-ASCII byte has reached the places so far
 abbrev pub flagOf : Front → Bool

@@ -1,7 +1,7 @@
 // What is known of the bytes so far.
 ghost use mathlib.Core.Path.{_≡_};
 ghost use Rattle.state.specs.State.{fresh, flagOf, triggered};
-ghost use Rattle.state.specs.Order.{triggerlessB, savedB, frontB};
+ghost use Rattle.state.specs.Order.{triggerlessB, savedB, bodyB, frontB};
 use context::Context;
 
 pub struct Front {
@@ -10,6 +10,8 @@ pub struct Front {
     pub non_ascii_seen: u64,
     pub closed: bool,
     pub bytes: u64,
+    // Of the bytes, those from the end of the head on.
+    pub body: u64,
 }
 
 impl Front {
@@ -22,6 +24,7 @@ impl Front {
             non_ascii_seen: 0,
             closed: false,
             bytes: 0,
+            body: 0,
         }
     }
 
@@ -46,7 +49,14 @@ impl Front {
         let context = self.context;
         self.bytes <= lengths::LIMIT
             && (self.non_ascii_seen <= self.bytes
-                && (context.len as u64 <= self.bytes && is_saved(context)))
+                && (context.len as u64 <= self.bytes && (self.has_body() && is_saved(context))))
+    }
+
+    // Whether so many bytes can have come from the end of the head on: before any trigger none has.
+    fn has_body(self) -> bool
+        ensures { λ r. ⌜ r ≡ bodyB self ⌝ }
+    {
+        self.body <= self.bytes && (self.is_triggered() || self.body == 0)
     }
 }
 

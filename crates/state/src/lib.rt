@@ -35,6 +35,7 @@ impl State {
         let front = self.front;
         let places = self.places;
         let fed = front.is_triggered();
-        front.is_in_order() && order::are_in_order(places, front.bytes, front.closed, fed)
+        front.is_in_order()
+            && order::are_in_order(places, front.bytes, front.body, front.closed, fed)
     }
 }

@@ -1,22 +1,75 @@
 // Runs the ISO-2022-JP machine, over the Standard's published JIS X 0208 index, through every escape of three bytes, every byte
-// after each escape that is one, and every pair after ESC $ B. Each is compared with a second check, written another way.
-// Prints how many there were, how many were whole, cut and none, and on how many the two differ.
+// after each escape that is one, every pair after ESC $ B, and every escape straight after another. Each is compared with a second
+// check, written another way. Prints how many there were, how many were whole, cut and none, and on how many the two differ, in
+// the reason and the place of a drop-out too.
 ghost use mathlib.Core.Path.{_≡_};
+ghost use Prim.Native.Nat.{_≤_};
 use iso2022jp::Iso2022Jp;
 use iso2022jp::Ran;
+use laws::Reason;
 use lengths::JIS;
 use reader::fill;
 use tally::Counts;
 
-fn machine(part: &[u8], index: &[u32]) -> u8 {
+// What comes of a byte string: one of the tally's codes, and of none whether an escape is broken, and at which byte.
+struct Verdict {
+    code: u8,
+    is_broken: bool,
+    at: usize,
+}
+
+impl Verdict {
+    fn of(code: u8) -> Verdict {
+        Verdict {
+            code,
+            is_broken: false,
+            at: 0,
+        }
+    }
+
+    fn bad(at: usize) -> Verdict {
+        Verdict {
+            code: tally::NONE,
+            is_broken: false,
+            at,
+        }
+    }
+
+    fn broken(at: usize) -> Verdict {
+        Verdict {
+            code: tally::NONE,
+            is_broken: true,
+            at,
+        }
+    }
+
+    fn dropped(reason: Reason, at: usize) -> Verdict {
+        match reason {
+            Reason::BadByte => Verdict::bad(at),
+            Reason::BrokenEscape => Verdict::broken(at),
+            Reason::CutAtClose => Verdict {
+                code: tally::CUT,
+                is_broken: false,
+                at,
+            },
+            _ => Verdict::of(tally::UNFIT),
+        }
+    }
+
+    fn is(self, other: Verdict) -> bool {
+        self.code == other.code && self.is_broken == other.is_broken && self.at == other.at
+    }
+}
+
+fn machine(part: &[u8], index: &[u32]) -> Verdict {
     match Iso2022Jp::fresh().run(part, index) {
         Ran::Live(m) => match m.close() {
-            Ran::Live(_) => tally::WHOLE,
-            Ran::Dropped => tally::CUT,
-            Ran::Unfit => tally::UNFIT,
+            Ran::Live(_) => Verdict::of(tally::WHOLE),
+            Ran::Dropped(reason, at) => Verdict::dropped(reason, at),
+            Ran::Unfit => Verdict::of(tally::UNFIT),
         },
-        Ran::Dropped => tally::NONE,
-        Ran::Unfit => tally::UNFIT,
+        Ran::Dropped(reason, at) => Verdict::dropped(reason, std::num::wrapping_add_usize(at, 1)),
+        Ran::Unfit => Verdict::of(tally::UNFIT),
     }
 }
 
@@ -32,39 +85,50 @@ fn place(b: u8) -> usize
     b as usize
 }
 
+// An escape after so many bytes with these last two, that is broken at one of them.
+fn broken_escape(after: usize, x: u8) -> Verdict
+    requires { ⌜ after ≤ 3 ⌝ }
+{
+    Verdict::broken(if x == 0x24 || x == 0x28 {
+        after + 3
+    } else {
+        after + 2
+    })
+}
+
 // The five escapes.
-fn second_escape(x: u8, y: u8) -> u8 {
+fn second_escape(x: u8, y: u8) -> Verdict {
     match wide(x) * 256 + wide(y) {
-        0x2440 | 0x2442 | 0x2842 | 0x2849 | 0x284A => tally::WHOLE,
-        _ => tally::NONE,
+        0x2440 | 0x2442 | 0x2842 | 0x2849 | 0x284A => Verdict::of(tally::WHOLE),
+        _ => broken_escape(0, x),
     }
 }
 
 // A byte after the escape ESC ( or ESC $ with this last byte.
-fn second_after(last: u8, b: u8) -> u8 {
+fn second_after(last: u8, b: u8) -> Verdict {
     if b == 0x1B {
-        return tally::CUT;
+        return Verdict::of(tally::CUT);
     }
     match last {
         0x49 => {
             if 0x20 < b && b < 0x60 {
-                tally::WHOLE
+                Verdict::of(tally::WHOLE)
             } else {
-                tally::NONE
+                Verdict::bad(4)
             }
         }
         0x40 => {
             if 0x20 < b && b < 0x7F {
-                tally::CUT
+                Verdict::of(tally::CUT)
             } else {
-                tally::NONE
+                Verdict::bad(4)
             }
         }
         _ => {
             if 0x7F < b || b == 14 || b == 15 {
-                tally::NONE
+                Verdict::bad(4)
             } else {
-                tally::WHOLE
+                Verdict::of(tally::WHOLE)
             }
         }
     }
@@ -87,25 +151,26 @@ fn pair_place(a: u8, b: u8) -> usize {
     place(a - 33) * 94 + place(b - 32)
 }
 
-fn second_pair(a: u8, b: u8, index: &[u32]) -> u8 {
+fn second_pair(a: u8, b: u8, index: &[u32]) -> Verdict {
     if a == 0x1B {
         return if b == 0x24 || b == 0x28 {
-            tally::CUT
+            Verdict::of(tally::CUT)
         } else {
-            tally::NONE
+            Verdict::broken(5)
         };
     }
+    let none = Verdict::bad(if a < 33 || 126 < a { 4 } else { 5 });
     let at = pair_place(a, b);
     if at == 0 {
-        return tally::NONE;
+        return none;
     }
     if index.len() < at {
-        return tally::NONE;
+        return none;
     }
     if index[at - 1] == 0 {
-        tally::NONE
+        none
     } else {
-        tally::WHOLE
+        Verdict::of(tally::WHOLE)
     }
 }
 
@@ -119,20 +184,36 @@ enum Sweep {
     // the low byte, after this escape
     After(u8, u8),
     Pairs,
+    Twice,
+}
+
+// Two that differ count as such whatever their codes are: the last is none of the tally's.
+fn counted(counts: Counts, found: Verdict, expected: Verdict) -> Counts {
+    if found.is(expected) {
+        return counts.counted(found.code, expected.code);
+    }
+    counts.counted(found.code, 0xFF)
 }
 
 fn tried(counts: Counts, sweep: Sweep, n: u32, index: &[u32]) -> Counts {
     let a = low(n / 256);
     let b = low(n);
     match sweep {
-        Sweep::Escapes => counts.counted(machine(&[0x1B, a, b], index), second_escape(a, b)),
-        Sweep::After(second, last) => counts.counted(
+        Sweep::Escapes => counted(counts, machine(&[0x1B, a, b], index), second_escape(a, b)),
+        Sweep::After(second, last) => counted(
+            counts,
             machine(&[0x1B, second, last, b], index),
             second_after(last, b),
         ),
-        Sweep::Pairs => counts.counted(
+        Sweep::Pairs => counted(
+            counts,
             machine(&[0x1B, 0x24, 0x42, a, b], index),
             second_pair(a, b, index),
+        ),
+        Sweep::Twice => counted(
+            counts,
+            machine(&[0x1B, 0x28, 0x42, 0x1B, a, b], index),
+            broken_escape(3, a),
         ),
     }
 }
@@ -166,6 +247,7 @@ fn print_sweeps(index: &[u32]) {
     swept(Sweep::After(0x28, 0x49), 256, index).print(b"bytes after ESC ( I:");
     swept(Sweep::After(0x24, 0x40), 256, index).print(b"bytes after ESC $ @:");
     swept(Sweep::Pairs, 65536, index).print(b"pairs after ESC $ B:");
+    swept(Sweep::Twice, 65536, index).print(b"escapes straight after ESC ( B:");
 }
 
 fn main() {

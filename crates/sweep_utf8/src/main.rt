@@ -1,8 +1,9 @@
 // Runs the UTF-8 machine over every short sequence of bytes and compares it with a second check, written another way: from the
 // bytes read so far, the interval of code points that they can still become. Prints how many sequences there were, how many were
-// whole, cut and none, and on how many the two differ.
+// whole, cut and none, and on how many the two differ, in the byte at which it is none too.
 ghost use mathlib.Core.Path.{_≡_};
 ghost use Prim.Native.Nat.{_<_, _≤_};
+use laws::Reason;
 use tally::Counts;
 use utf8::Ran;
 use utf8::Utf8;
@@ -15,15 +16,39 @@ struct Part {
     least: u64,
 }
 
-fn machine(part: &[u8]) -> u8 {
+// What comes of a sequence: one of the tally's codes, and of none at which byte, from 1.
+struct Verdict {
+    code: u8,
+    at: usize,
+}
+
+fn dropped(reason: Reason, at: usize) -> Verdict {
+    let code = match reason {
+        Reason::BadByte => tally::NONE,
+        Reason::CutAtClose => tally::CUT,
+        _ => tally::UNFIT,
+    };
+    Verdict { code, at }
+}
+
+fn machine(part: &[u8]) -> Verdict {
     match Utf8::fresh().run(part) {
         Ran::Live(m) => match m.close() {
-            Ran::Live(_) => tally::WHOLE,
-            Ran::Dropped => tally::CUT,
-            Ran::Unfit => tally::UNFIT,
+            Ran::Live(_) => Verdict {
+                code: tally::WHOLE,
+                at: 0,
+            },
+            Ran::Dropped(reason, at) => dropped(reason, at),
+            Ran::Unfit => Verdict {
+                code: tally::UNFIT,
+                at: 0,
+            },
         },
-        Ran::Dropped => tally::NONE,
-        Ran::Unfit => tally::UNFIT,
+        Ran::Dropped(reason, at) => dropped(reason, std::num::wrapping_add_usize(at, 1)),
+        Ran::Unfit => Verdict {
+            code: tally::UNFIT,
+            at: 0,
+        },
     }
 }
 
@@ -111,28 +136,41 @@ fn first(b: u8) -> Part {
     never()
 }
 
-fn second(bytes: &[u8]) -> u8 {
+fn second(bytes: &[u8]) -> Verdict {
     let mut part = first(0);
     let mut i = 0;
     while i < bytes.len() {
         part = taken(part, bytes[i]);
+        i += 1;
         if part.left == 9 {
-            return tally::NONE;
+            return Verdict {
+                code: tally::NONE,
+                at: i,
+            };
         }
         if !is_possible(part) {
-            return tally::NONE;
+            return Verdict {
+                code: tally::NONE,
+                at: i,
+            };
         }
-        i += 1;
     }
-    if part.left == 0 {
+    let code = if part.left == 0 {
         tally::WHOLE
     } else {
         tally::CUT
-    }
+    };
+    Verdict { code, at: 0 }
 }
 
+// Two that differ in the byte count as such whatever their codes are: the last is none of the tally's.
 fn counted(counts: Counts, bytes: &[u8]) -> Counts {
-    counts.counted(machine(bytes), second(bytes))
+    let found = machine(bytes);
+    let expected = second(bytes);
+    if found.at == expected.at {
+        return counts.counted(found.code, expected.code);
+    }
+    counts.counted(found.code, 0xFF)
 }
 
 fn counted_first(counts: Counts, bytes: &[u8], len: usize) -> Counts {

@@ -1,5 +1,8 @@
 -- How the machine's record stands for the Standard's variables, and its outcomes for the Standard's results.
 use Prim.Native.Nat.{_-_}
+use Rattle.laws.specs.declared.Reason.{Reason}
+use Rattle.laws.specs.declared.Reason.the-variants.{BadByte, CutAtClose}
+use Rattle.laws.specs.Handler.{Item, end-of-queue, byte}
 use Rattle.laws.specs.Run.{Outcome}
 use Rattle.utf8.specs.declared.Utf8.{Utf8}
 use Rattle.laws.specs.Validator.{Verdict, outcomeBy}
@@ -10,5 +13,10 @@ use Rattle.utf8.specs.Utf8.{needs}
 abbrev pub recordOf : Decoder → Utf8
 recordOf d = needs (d .bytes-needed - d .bytes-seen) (d .lower-boundary) (d .upper-boundary)
 
-abbrev pub outcomeOf : Verdict Decoder → Outcome Utf8
-outcomeOf r = outcomeBy recordOf r
+-- why the decoder's error drops the machine out
+abbrev pub reasonOf : Decoder → Item → Reason
+reasonOf d end-of-queue = CutAtClose
+reasonOf d (byte b) = BadByte
+
+abbrev pub outcomeOf : Reason → Verdict Decoder → Outcome Utf8
+outcomeOf why r = outcomeBy recordOf why r

@@ -8,14 +8,15 @@ use lib.Dec.{eqb}
 use borrow.Author.Tests.{ne-eqb, eqb-true, eqb-false}
 use Rattle.laws.specs.Tests.{either, through}
 use Rattle.laws.specs.Handler.{end-of-queue, byte, continue, code-point, error, varsOf}
-use Rattle.laws.specs.Validator.{Verdict, at-start, on, outcomeBy, decodedBy, decodes}
-use Rattle.laws.specs.Run.{run, ended, alive, dropped}
+use Rattle.laws.specs.Validator.{Verdict, at-start, on, outcomeBy, decodedBy, lastBy, decodes}
+use Rattle.laws.specs.declared.Reason.the-variants.{BadByte, CutAtClose}
+use Rattle.laws.specs.Run.{none, run, ended, alive}
 use Rattle.octets.specs.Octets.{between}
 use Rattle.utf8.specs.declared.Utf8.{Utf8}
 use Rattle.utf8.specs.Standard.{Decoder, variables, initial, handler, Reached}
 use Rattle.utf8.specs.Utf8.{needs, fresh, Sound, plain, after-E0, after-ED, after-F0, after-F4, leadOf, trailOf, stepOf, closeOf}
 use Rattle.utf8.specs.Utf8Laws.{cut-range, most-needed, fresh-sound}
-use Rattle.utf8.specs.Agreement.{recordOf, outcomeOf}
+use Rattle.utf8.specs.Agreement.{recordOf, reasonOf, outcomeOf}
 
 -- ---- what the variables can be
 data Held : Decoder → Type 0 where
@@ -48,7 +49,7 @@ module _ (seen needed lower upper : ℕ) (more : seen < needed) (few : needed - 
   held-next true false e = let n = eqb-false (seen + 1) needed e in under-way {seen = seen + 1} {needed = needed} (omega arith) (plain {n = needed - (seen + 1)} (omega arith))
   held-next false u e = idle
 
-  agrees-next : (t u : Bool) → eqb (seen + 1) needed ≡ u → cond t (alive (needs (needed - seen - 1) 0x80 0xBF)) dropped ≡ outcomeOf (nextAs t u)
+  agrees-next : (t u : Bool) → eqb (seen + 1) needed ≡ u → cond t (alive (needs (needed - seen - 1) 0x80 0xBF)) (none BadByte) ≡ outcomeOf BadByte (nextAs t u)
   unfolding outcomeBy
   agrees-next true true e = let n : needed - seen - 1 ≡ 0 = omega (arith, eqb-true (seen + 1) needed e) in rw n
   agrees-next true false e = let n : needed - seen - 1 ≡ needed - (seen + 1) = omega arith in rw n
@@ -64,37 +65,37 @@ held at-start = idle
 held (on {d} r b) = held-on d b (held r)
 
 -- ---- a byte
-agrees-first : (b : ℕ) → leadOf b ≡ outcomeOf (handler initial (byte b))
+agrees-first : (b : ℕ) → leadOf b ≡ outcomeOf BadByte (handler initial (byte b))
 unfolding leadOf handler outcomeBy
-agrees-first b = sym (simp (through outcomeOf))
+agrees-first b = sym (simp (through (outcomeOf BadByte)))
 
-agrees : (d : Decoder) (b : ℕ) → Held d → stepOf (recordOf d) b ≡ outcomeOf (handler d (byte b))
+agrees : (d : Decoder) (b : ℕ) → Held d → stepOf (recordOf d) b ≡ outcomeOf BadByte (handler d (byte b))
 unfolding stepOf trailOf
 agrees d b idle = agrees-first b
 agrees d b (under-way {seen} {needed} {lower} {upper} h s) =
     rw (ne-eqb (needed - seen) 0 (λ (e : needed - seen ≡ 0). omega arith), goes-on seen needed lower upper h (most-needed _ s) b) (agrees-next seen needed lower upper h (most-needed _ s) b (between lower upper b) (eqb (seen + 1) needed) refl)
 
 -- The machine's step is the Standard's, at every byte and for all variables that the decoder can have.
-pub step-agrees : (d : Decoder) (b : ℕ) → Reached d → stepOf (recordOf d) b ≡ outcomeOf (handler d (byte b))
+pub step-agrees : (d : Decoder) (b : ℕ) → Reached d → stepOf (recordOf d) b ≡ outcomeOf (reasonOf d (byte b)) (handler d (byte b))
 step-agrees d b r = agrees d b (held r)
 
 -- ---- the end
-closes : (d : Decoder) → Held d → closeOf (recordOf d) ≡ outcomeOf (handler d end-of-queue)
+closes : (d : Decoder) → Held d → closeOf (recordOf d) ≡ outcomeOf CutAtClose (handler d end-of-queue)
 unfolding closeOf handler outcomeBy
 closes d idle = refl
 closes d (under-way {seen} {needed} h s) =
     rw (ne-eqb (needed - seen) 0 (λ (e : needed - seen ≡ 0). omega arith), ne-eqb needed 0 (λ (e : needed ≡ 0). omega arith))
 
 -- So is its close at the end of the stream.
-pub close-agrees : (d : Decoder) → Reached d → closeOf (recordOf d) ≡ outcomeOf (handler d end-of-queue)
+pub close-agrees : (d : Decoder) → Reached d → closeOf (recordOf d) ≡ outcomeOf (reasonOf d end-of-queue) (handler d end-of-queue)
 close-agrees d r = closes d (held r)
 
 pub fresh-agrees : fresh ≡ recordOf initial
 fresh-agrees = refl
 
--- Over a whole stream, closed, the machine is what the Standard's decoder is up to its first error.
-pub stream-agrees : (xs : List ℕ) → ended closeOf (run stepOf (alive fresh) xs) ≡ outcomeOf (decodedBy handler initial xs)
-stream-agrees xs = decodes handler initial recordOf stepOf closeOf (λ (d : Decoder) (r : Reached d). (λ (b : ℕ). step-agrees d b r, close-agrees d r)) initial xs at-start
+-- Over a whole stream, closed, the machine is what the Standard's decoder is up to its first error, with the reason of that error.
+pub stream-agrees : (xs : List ℕ) → ended closeOf (run stepOf (alive fresh) xs) ≡ outcomeOf (lastBy handler reasonOf initial xs) (decodedBy handler initial xs)
+stream-agrees xs = decodes handler initial recordOf reasonOf stepOf closeOf (λ (d : Decoder) (r : Reached d). (λ (b : ℕ). step-agrees d b r, close-agrees d r)) initial xs at-start
 
 -- ---- what the kind can hold is what the decoder can reach
 held-sound : {d : Decoder} → Held d → Sound (recordOf d)

@@ -7,7 +7,8 @@ use lib.IntN.{ℤ}
 use lib.ListN.{length}
 use Rattle.laws.specs.Limit.{limit}
 use Rattle.laws.specs.Answer.{answered, answeredIf}
-use Rattle.laws.specs.Run.{Outcome, live, alive, dropped, run}
+use Rattle.laws.specs.declared.Reason.the-variants.{BadByte, CutAtClose}
+use Rattle.laws.specs.Run.{Outcome, none, live, alive, run, lastAt}
 use Rattle.octets.specs.Octets.{between}
 use Rattle.utf8.specs.declared.Utf8.{Utf8}
 use Rattle.utf8.specs.declared.Stepped.{Stepped}
@@ -51,30 +52,30 @@ leadOf b =
     (cond (between 0xC2 0xDF b) (alive (needs 1 0x80 0xBF))
     (cond (between 0xE0 0xEF b) (alive (needs 2 (cond (eqb b 0xE0) 0xA0 0x80) (cond (eqb b 0xED) 0x9F 0xBF)))
     (cond (between 0xF0 0xF4 b) (alive (needs 3 (cond (eqb b 0xF0) 0x90 0x80) (cond (eqb b 0xF4) 0x8F 0xBF)))
-    dropped)))
+    (none BadByte))))
 
 -- a byte within one
 unfoldable pub trailOf : Utf8 → ℕ → Outcome Utf8
-trailOf m b = cond (between (m .lo) (m .hi) b) (alive (needs (m .need - 1) 0x80 0xBF)) dropped
+trailOf m b = cond (between (m .lo) (m .hi) b) (alive (needs (m .need - 1) 0x80 0xBF)) (none BadByte)
 
 unfoldable pub stepOf : Utf8 → ℕ → Outcome Utf8
 stepOf m b = cond (eqb (m .need) 0) (leadOf b) (trailOf m b)
 
 -- ---- the end of the stream
 unfoldable pub closeOf : Utf8 → Outcome Utf8
-closeOf m = cond (eqb (m .need) 0) (alive m) dropped
+closeOf m = cond (eqb (m .need) 0) (alive m) (none CutAtClose)
 
 -- ---- the code's answers
 abbrev pub outOf : Stepped → Outcome Utf8
 outOf (Alive m g) = live m g
-outOf Invalid = dropped
+outOf Invalid = none BadByte
 
 -- the change of the score, which is 0, is not told
 abbrev living : Utf8 → ℤ → Ran
 living m s = Live m
 
-abbrev pub ranAs : Outcome Utf8 → Ran
-ranAs o = answered living Dropped o
+abbrev pub ranAs : ℕ → Outcome Utf8 → Ran
+ranAs at o = answered living Dropped at o
 
 -- a record that the kind can hold, and a stretch that is not too long
 pub record Ready (m : Utf8) (xs : List ℕ) : Type 0 where
@@ -85,7 +86,8 @@ unfoldable pub readyB : Utf8 → List ℕ → Bool
 readyB m xs = soundB m && leb (length xs) limit
 
 unfoldable pub ranOf : Utf8 → List ℕ → Ran
-ranOf m xs = answeredIf living Dropped Unfit (readyB m xs) (run stepOf (alive m) xs)
+ranOf m xs = answeredIf living Dropped Unfit (readyB m xs) (lastAt stepOf (alive m) xs) (run stepOf (alive m) xs)
 
+-- the end takes no byte
 unfoldable pub closedOf : Utf8 → Ran
-closedOf m = answeredIf living Dropped Unfit (soundB m) (closeOf m)
+closedOf m = answeredIf living Dropped Unfit (soundB m) 0 (closeOf m)

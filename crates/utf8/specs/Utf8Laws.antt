@@ -10,7 +10,9 @@ use lib.ListN.{length}
 use borrow.Author.Tests.{eq-eqb, ne-eqb, eqb-true, le-leb, leb-true}
 use Rattle.laws.specs.Limit.{limit}
 use Rattle.laws.specs.Answer.{if-fit}
-use Rattle.laws.specs.Run.{Outcome, live, run, alive, dropped}
+use Rattle.laws.specs.declared.Reason.{Reason}
+use Rattle.laws.specs.declared.Reason.the-variants.{BadByte, CutAtClose}
+use Rattle.laws.specs.Run.{Outcome, none, live, run, lastAt, alive}
 use Rattle.laws.specs.Tests.{both, either}
 use Rattle.laws.specs.Still.{Lives, Ends, none-live, run-ends}
 use Rattle.octets.specs.Octets.{between}
@@ -25,14 +27,14 @@ module _ (b : ℕ) where
   lead-ascii h = rw (inside 0x00 0x7F b (omega arith) (omega arith))
 
   -- no byte that begins a sequence: past the ASCII, and outside C2..DF, E0..EF, F0..F4
-  no-lead : between 0xC2 0xDF b ≡ false → between 0xE0 0xEF b ≡ false → between 0xF0 0xF4 b ≡ false → 0x7F < b → dropped ≡ leadOf b
+  no-lead : between 0xC2 0xDF b ≡ false → between 0xE0 0xEF b ≡ false → between 0xF0 0xF4 b ≡ false → 0x7F < b → none BadByte ≡ leadOf b
   unfolding leadOf
   no-lead p q r h = rw (above 0x00 0x7F b h, p, q, r)
 
-  pub lead-early : 0x80 ≤ b → b < 0xC2 → dropped ≡ leadOf b
+  pub lead-early : 0x80 ≤ b → b < 0xC2 → none BadByte ≡ leadOf b
   lead-early p q = no-lead (below 0xC2 0xDF b q) (below 0xE0 0xEF b (omega arith)) (below 0xF0 0xF4 b (omega arith)) (omega arith)
 
-  pub lead-late : 0xF5 ≤ b → dropped ≡ leadOf b
+  pub lead-late : 0xF5 ≤ b → none BadByte ≡ leadOf b
   lead-late p = no-lead (above 0xC2 0xDF b (omega arith)) (above 0xE0 0xEF b (omega arith)) (above 0xF0 0xF4 b (omega arith)) (omega arith)
 
   pub lead-two : 0xC2 ≤ b → b < 0xE0 → alive (needs 1 0x80 0xBF) ≡ leadOf b
@@ -59,14 +61,14 @@ module _ (m : Utf8) (b : ℕ) where
   step-trail e = rw (ne-eqb _ _ e)
 
   module _ (e : m .need ≡ 0 → ⊥) where
-    pub step-outside : between (m .lo) (m .hi) b ≡ false → dropped ≡ stepOf m b
+    pub step-outside : between (m .lo) (m .hi) b ≡ false → none BadByte ≡ stepOf m b
     unfolding trailOf
     step-outside h = sym (step-trail e ∙ rw h)
 
-    pub step-below : b < m .lo → dropped ≡ stepOf m b
+    pub step-below : b < m .lo → none BadByte ≡ stepOf m b
     step-below h = step-outside (below (m .lo) (m .hi) b h)
 
-    pub step-above : m .hi < b → dropped ≡ stepOf m b
+    pub step-above : m .hi < b → none BadByte ≡ stepOf m b
     step-above h = step-outside (above (m .lo) (m .hi) b h)
 
     pub step-within : m .lo ≤ b → b ≤ m .hi → alive (needs (m .need - 1) 0x80 0xBF) ≡ stepOf m b
@@ -163,13 +165,42 @@ pub run-keeps : (m : Utf8) (s : ℤ) (xs : List ℕ) → Sound m → Ends Sound 
 run-keeps m s xs h = run-ends stepOf Sound step-keeps s (live m s) xs (h, refl)
 
 -- ---- the close: live exactly if nothing is needed
-close-at : (m : Utf8) (t : Bool) → eqb (m .need) 0 ≡ t → Lives (cond t (alive m) dropped) → m .need ≡ 0
+close-at : (m : Utf8) (t : Bool) → eqb (m .need) 0 ≡ t → Lives (cond t (alive m) (none CutAtClose)) → m .need ≡ 0
 close-at m true e l = eqb-true _ _ e
 close-at m false e l = absurd (none-live (l .1 .1))
 
 pub close-whole : (m : Utf8) → Lives (closeOf m) → m .need ≡ 0
 unfolding closeOf
 close-whole m l = close-at m (eqb (m .need) 0) refl l
+
+-- ---- why it drops out
+abbrev Only : Reason → Outcome Utf8 → Type 0
+Only why (none d) = d ≡ why
+Only why (live m s) = Unit {0}
+
+lead-only : (b : ℕ) → Only BadByte (leadOf b)
+unfolding leadOf
+lead-only b =
+    either (Only BadByte) (between 0x00 0x7F b) (λ e. tt)
+    (λ e. either (Only BadByte) (between 0xC2 0xDF b) (λ e. tt)
+    (λ e. either (Only BadByte) (between 0xE0 0xEF b) (λ e. tt)
+    (λ e. either (Only BadByte) (between 0xF0 0xF4 b) (λ e. tt) (λ e. refl))))
+
+step-only : (m : Utf8) (b : ℕ) → Only BadByte (stepOf m b)
+unfolding stepOf trailOf
+step-only m b =
+    either (Only BadByte) (eqb (m .need) 0) (λ e. lead-only b)
+    (λ e. either (Only BadByte) (between (m .lo) (m .hi) b) (λ e. tt) (λ e. refl))
+
+pub step-reason : (m : Utf8) (b : ℕ) (d : Reason) → stepOf m b ≡ none d → d ≡ BadByte
+step-reason m b d e = rw e at (step-only m b)
+
+close-only : (m : Utf8) → Only CutAtClose (closeOf m)
+unfolding closeOf
+close-only m = either (Only CutAtClose) (eqb (m .need) 0) (λ e. tt) (λ e. refl)
+
+pub close-reason : (m : Utf8) (d : Reason) → closeOf m ≡ none d → d ≡ CutAtClose
+close-reason m d e = rw e at (close-only m)
 
 -- ---- what a call gives
 module _ (m : Utf8) (xs : List ℕ) where
@@ -182,10 +213,10 @@ module _ (m : Utf8) (xs : List ℕ) where
   ready-true e = let q = both (soundB m) (leb (length xs) limit) e in record { sound = sound-true m (q .0); short = leb-true _ _ (q .1) }
 
   -- a caller that tested
-  pub ran-ready : Ready m xs → ranOf m xs ≡ ranAs (run stepOf (alive m) xs)
+  pub ran-ready : Ready m xs → ranOf m xs ≡ ranAs (lastAt stepOf (alive m) xs) (run stepOf (alive m) xs)
   unfolding ranOf
-  ran-ready r = if-fit _ _ _ _ _ (true-ready r)
+  ran-ready r = if-fit _ _ _ _ _ _ (true-ready r)
 
-pub closed-ready : (m : Utf8) → Sound m → closedOf m ≡ ranAs (closeOf m)
+pub closed-ready : (m : Utf8) → Sound m → closedOf m ≡ ranAs 0 (closeOf m)
 unfolding closedOf
-closed-ready m h = if-fit _ _ _ _ _ (true-sound m h)
+closed-ready m h = if-fit _ _ _ _ _ _ (true-sound m h)

@@ -10,9 +10,11 @@ use lib.Dec.{T, eqb, ltb, leb, eqb→eq, leb→le}
 use lib.IntN.{ℤ, pos, negsuc, +ℤ-idr}
 use lib.ListN.{length}
 use borrow.Author.Tests.{ltb-true, ltb-false}
-use Rattle.laws.specs.Run.{Outcome, none, live, plus, run, run-append, run-nil, ended, alive, dropped}
+use Rattle.laws.specs.declared.Reason.{Reason}
+use Rattle.laws.specs.declared.Reason.the-variants.{BadByte}
+use Rattle.laws.specs.Run.{Outcome, none, live, plus, run, run-append, run-nil, ended, alive}
 use Rattle.laws.specs.Still.{Lives, lives, lives-begun, from-zero, run-first, run-drops, none-live, plus-live, ended-live}
-use Rattle.laws.specs.Validator.{decodedBy}
+use Rattle.laws.specs.Validator.{decodedBy, lastBy}
 use Rattle.laws.specs.Table.{and-left, and-right, every, nothing, within}
 use Rattle.octets.specs.Octets.{between}
 use Rattle.octets.specs.BetweenLaws.{between-low, between-high}
@@ -20,7 +22,7 @@ use Rattle.utf8.specs.declared.Utf8.{Utf8}
 use Rattle.utf8.specs.WellFormed.{Range, _to_, Row, table, Fits, FitsOne, WellFormed, Text, empty, then, Cut, Streams}
 use Rattle.utf8.specs.Utf8.{needs, fresh, leadOf, stepOf, closeOf}
 use Rattle.utf8.specs.Standard.{initial, handler}
-use Rattle.utf8.specs.Agreement.{outcomeOf}
+use Rattle.utf8.specs.Agreement.{reasonOf, outcomeOf}
 use Rattle.utf8.specs.AgreementLaws.{stream-agrees}
 use Rattle.utf8.specs.Utf8Laws.{step-lead, step-within, step-outside, lead-late, close-whole}
 
@@ -124,7 +126,7 @@ module _ (r : Range) (rs : Row) (p : Rest (r ∷ rs)) (b : ℕ) where
   step-in : r .low ≤ b → b ≤ r .high → stepOf (waits (r ∷ rs)) b ≡ alive (waits rs)
   step-in l h = sym (step-within (waits (r ∷ rs)) b (λ (e : suc (length rs) ≡ 0). omega arith) l h) ∙ ap alive (next-waits r rs p)
 
-  step-out : between (r .low) (r .high) b ≡ false → stepOf (waits (r ∷ rs)) b ≡ dropped
+  step-out : between (r .low) (r .high) b ≡ false → stepOf (waits (r ∷ rs)) b ≡ none BadByte
   step-out e = sym (step-outside (waits (r ∷ rs)) b (λ (e : suc (length rs) ≡ 0). omega arith) e)
 
 -- ---- what the table makes, lives
@@ -243,9 +245,9 @@ settle : (m : Utf8) (xs : List ℕ) (first : List ℕ) (rs : Row) (s : ℤ) → 
 settle m xs first [] s p f e rest = more m first xs (rw append-nil at (f [] tt)) (rest [] [] s between-two e)
 settle m xs first (r ∷ rs) s p f e rest = rest first (r ∷ rs) s (within-one p f) e
 
-none-is : (o : Outcome Utf8) → T (isNone o) → o ≡ dropped
+none-is : (o : Outcome Utf8) → T (isNone o) → (d : Reason) × (o ≡ none d)
 unfolding isNone
-none-is (none d) t = refl
+none-is (none d) t = (d, refl)
 none-is (live m s) t = absurd t
 
 module _ (m : Utf8) (b : ℕ) (xs : List ℕ) (s : ℤ) (rest : Reads m xs) where
@@ -253,8 +255,8 @@ module _ (m : Utf8) (b : ℕ) (xs : List ℕ) (s : ℤ) (rest : Reads m xs) wher
   lead-read : (t : Bool) → isNone (leadOf b) ≡ t → run stepOf (alive fresh) (b ∷ xs) ≡ live m s → Read m (b ∷ xs)
   unfolding WellFormed
   lead-read true n e =
-      let d : stepOf fresh b ≡ dropped = sym (step-lead fresh b refl) ∙ none-is (leadOf b) (rw n tt) in
-      absurd (none-live (sym (run-drops stepOf fresh tt b xs d) ∙ e))
+      let d = none-is (leadOf b) (rw n tt) in
+      absurd (none-live (sym (run-drops stepOf fresh (d .0) b xs (sym (step-lead fresh b refl) ∙ d .1)) ∙ e))
   lead-read false n e =
       let o = begun table b goods (rw n at (no-row b)) in
       let l : stepOf fresh b ≡ alive (waits (o .rest)) = sym (step-lead fresh b refl) ∙ o .leads-to in
@@ -267,7 +269,7 @@ module _ (m : Utf8) (b : ℕ) (xs : List ℕ) (s : ℤ) (rest : Reads m xs) wher
       let h = between-high (r .low) (r .high) b n in
       let g : (bs : List ℕ) → Fits rs bs → WellFormed (first ++ (b ∷ []) ++ bs) = λ (bs : List ℕ) (q : Fits rs bs). rw append-assoc (f (b ∷ bs) ((l, h), q)) in
       rw append-assoc at (settle m xs (first ++ (b ∷ [])) rs s (plain-rest rs (p .1)) g (sym (run-first stepOf (waits (r ∷ rs)) (waits rs) b xs (step-in r rs p b l h)) ∙ e) rest)
-  trail-read first r rs p f false n e = absurd (none-live (sym (run-drops stepOf (waits (r ∷ rs)) tt b xs (step-out r rs p b n)) ∙ e))
+  trail-read first r rs p f false n e = absurd (none-live (sym (run-drops stepOf (waits (r ∷ rs)) BadByte b xs (step-out r rs p b n)) ∙ e))
 
   byte-read : (first : List ℕ) (rs : Row) → Reading first rs → run stepOf (alive (waits rs)) (b ∷ xs) ≡ live m s → Read m (first ++ (b ∷ xs))
   byte-read first rs between-two e = lead-read (isNone (leadOf b)) refl e
@@ -320,8 +322,8 @@ module _ (s : ℤ) (xs : List ℕ) where
 
 -- ---- so for the Standard's decoder over a whole stream: no error exactly if the bytes are whole well-formed sequences
 module _ (xs : List ℕ) where
-  pub text-decoded : Text xs → outcomeOf (decodedBy handler initial xs) ≡ alive fresh
+  pub text-decoded : Text xs → outcomeOf (lastBy handler reasonOf initial xs) (decodedBy handler initial xs) ≡ alive fresh
   text-decoded t = sym (stream-agrees xs) ∙ text-closes (pos 0) xs t
 
-  pub decoded-text : Lives (outcomeOf (decodedBy handler initial xs)) → Text xs
+  pub decoded-text : Lives (outcomeOf (lastBy handler reasonOf initial xs) (decodedBy handler initial xs)) → Text xs
   decoded-text l = closes-text (pos 0) xs (rw (← stream-agrees xs) at l)

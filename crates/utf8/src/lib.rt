@@ -2,8 +2,9 @@
 ghost use mathlib.Core.Path.{_≡_};
 ghost use mathlib.Core.Bool.{cond};
 ghost use lib.Dec.{eqb};
-ghost use Rattle.laws.specs.Run.{run, alive};
+ghost use Rattle.laws.specs.Run.{run, lastAt, alive};
 ghost use Rattle.utf8.specs.Utf8.{Sound, closedOf, fresh, leadOf, needs, nextCut, nextIn, outOf, ranAs, ranOf, soundB, stepOf};
+use laws::Reason;
 
 // Between two bytes: how many more the sequence needs, and the range of the next one.
 pub struct Utf8 {
@@ -12,16 +13,17 @@ pub struct Utf8 {
     pub hi: u8,
 }
 
-// The record after a byte and the change of the score, which is 0; or none.
+// The record after a byte and the change of the score, which is 0; or the byte is bad.
 enum Stepped {
     Alive(Utf8, i64),
     Invalid,
 }
 
-// What a stretch, or the end of the stream, leaves: the record, or none; or the record or the stretch was not fit to run.
+// What a stretch, or the end of the stream, leaves: the record; or why it drops out and at which offset in the stretch, 0 at
+// the end; or the record or the stretch was not fit to run.
 pub enum Ran {
     Live(Utf8),
-    Dropped,
+    Dropped(Reason, usize),
     Unfit,
 }
 
@@ -132,18 +134,23 @@ impl Utf8 {
 
     fn run_fit(self, part: &[u8]) -> Ran
         requires { ⌜ Sound self ⌝ }
-        ensures { λ r. ⌜ r ≡ ranAs (run stepOf (alive self) (now (part .entry))) ⌝ }
+        ensures { λ r. ⌜ r ≡ ranAs (lastAt stepOf (alive self) (now (part .entry))) (run stepOf (alive self) (now (part .entry))) ⌝ }
     {
         let mut m = self;
         let mut i = 0;
         while i < part.len() {
             let Stepped::Alive(next, _) = m.step(part[i]) else {
-                return Ran::Dropped;
+                return Ran::Dropped(Reason::BadByte, i);
             };
             m = next;
             i += 1;
         }
-        Ran::Live(m)
+        // made anew, so that its fields are not copied as one piece
+        Ran::Live(Utf8 {
+            need: m.need,
+            lo: m.lo,
+            hi: m.hi,
+        })
     }
 
     // A stretch of bytes, one after the other.
@@ -166,7 +173,7 @@ impl Utf8 {
             if self.need == 0 {
                 return Ran::Live(self);
             }
-            return Ran::Dropped;
+            return Ran::Dropped(Reason::CutAtClose, 0);
         }
         Ran::Unfit
     }

@@ -52,6 +52,11 @@ pub const CUT: &[&[u8]] = &[
     b"ab\xFF",
 ];
 
+/// How many ways there are to cut a stream.
+pub fn cuts(stream: &[u8]) -> u64 {
+    1 << stream.len().saturating_sub(1)
+}
+
 /// The stream cut after byte k where bit k of `cut` is set.
 pub fn cut_up(stream: &[u8], cut: u64, with_empty: bool) -> Vec<&[u8]> {
     let mut chunks = Vec::new();

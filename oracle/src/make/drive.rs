@@ -115,6 +115,11 @@ pub fn run(place: u8, kind: &str, seed: u64, count: u64, out: &mut impl Write) -
             cases.product(&records::bounds(place), &one, true, count)?;
             cases.product(&fresh, &longer(&longer(&[vec![]], &TELLING), &every()), true, count)?;
         }
+        "dropped" => {
+            let inputs = [vec![], vec![0x61], vec![0xE0, 0x80, 0x61]];
+            cases.product(&records::dropped(place), &inputs, false, count)?;
+            cases.product(&records::dropped(place), &inputs, true, count)?;
+        }
         "two" => cases.product(&fresh, &two(), true, count)?,
         "three" => {
             let first = longer(&[vec![]], &FIRST);

@@ -1,14 +1,19 @@
 //! Cases with names, for `drive`: held scores at the close, states that no
 //! stream reaches, the previous-byte rule, mapped private use, the specials,
-//! the held leads of Korean, and document 01's edge lines on EUC-KR and Big5.
-//! They are meant for the tables `named`.
+//! the held leads of Korean, document 01's edge lines on EUC-KR and Big5, and
+//! each reason for which a place drops out. They are meant for the tables
+//! `named`.
 
 use crate::order::fresh;
+use crate::reason::Reason;
 use crate::record::Record;
 use std::io::{Result, Write};
 
+const UTF_8: u8 = 0;
+const ISO_2022_JP: u8 = 1;
 const EUC_KR: u8 = 2;
 const BIG5: u8 = 3;
+const CASELESS: u8 = 4;
 
 struct Line {
     name: &'static str,
@@ -19,7 +24,7 @@ struct Line {
 }
 
 pub fn run(out: &mut impl Write) -> Result<()> {
-    let groups = [edges(), held(), unreachable(), previous_byte(), mapped(), leads()];
+    let groups = [edges(), held(), unreachable(), previous_byte(), mapped(), leads(), reasons()];
     for line in groups.into_iter().flatten() {
         out.write_all(&[b'N', line.name.len() as u8])?;
         out.write_all(line.name.as_bytes())?;
@@ -42,7 +47,7 @@ fn closed(place: u8, name: &'static str, bytes: &[u8]) -> Line {
 }
 
 fn from(place: u8, name: &'static str, start: Record, bytes: &[u8]) -> Line {
-    Line { start: Record { live: true, ..start }, ..open(place, name, bytes) }
+    Line { start, ..open(place, name, bytes) }
 }
 
 fn edges() -> Vec<Line> {
@@ -73,8 +78,9 @@ fn held() -> Vec<Line> {
 /// From states in order that no stream leads to, each beside its neighbour
 /// that a stream does lead to.
 fn unreachable() -> Vec<Line> {
-    let big5 = |b: u8| Record { a: 0xA4, b, d: 2, ..Record::default() };
-    let korean = |c: u8, d: u8| Record { a: 0xB0, b: 0xB0, c, d, ..Record::default() };
+    let live = Record { live: true, ..Record::default() };
+    let big5 = |b: u8| Record { a: 0xA4, b, d: 2, ..live };
+    let korean = |c: u8, d: u8| Record { a: 0xB0, b: 0xB0, c, d, ..live };
     let flag_false = "5.6 lead B0, range flag false, Hangul at A1 is non-EUC";
     let flag_true = "5.6 lead B0, range flag true, Hangul at A1 is EUC";
     vec![
@@ -122,4 +128,27 @@ fn leads() -> Vec<Line> {
     let name = "5.2 lead 82 then 20, counted; the Rust as given holds and drops it";
     let at_close = "5.2 lead 82 at the close, counted; the Rust as given holds it";
     vec![open(EUC_KR, name, &[0x82, 0x41, 0x20]), closed(EUC_KR, at_close, &[0x82, 0x41])]
+}
+
+/// Each reason in each kind that can have it.
+fn reasons() -> Vec<Line> {
+    let escape = "101 ISO-2022-JP, an escape straight after another, at its last byte";
+    let trail = "101 ISO-2022-JP, an escape byte where a trail byte is due";
+    vec![
+        open(UTF_8, "101 UTF-8, bad byte", b"a\xC3a"),
+        closed(UTF_8, "101 UTF-8, cut at the close", b"a\xE2\x82"),
+        open(ISO_2022_JP, "101 ISO-2022-JP, bad byte", b"a\x0E"),
+        open(ISO_2022_JP, trail, b"\x1B$B0\x1B"),
+        open(ISO_2022_JP, "101 ISO-2022-JP, unknown escape", b"\x1B(C"),
+        open(ISO_2022_JP, escape, b"\x1B(B\x1B(J"),
+        closed(ISO_2022_JP, "101 ISO-2022-JP, cut at the close", b"\x1B("),
+        open(EUC_KR, "101 EUC-KR, bad second byte", b"\xB0\xFF"),
+        open(EUC_KR, "101 EUC-KR, bad second byte that is ASCII", b"a\xA4 "),
+        closed(EUC_KR, "101 EUC-KR, cut at the close", b"a\xB0"),
+        open(BIG5, "101 Big5, bad byte", b"a\x80"),
+        open(BIG5, "101 Big5, bad second byte that is ASCII", b"\xA4 "),
+        closed(BIG5, "101 Big5, cut at the close", b"\xB0"),
+        open(CASELESS, "101 caseless, class 255", b"ab\xFF"),
+        from(CASELESS, "101 caseless, not in the slate", Record::none(Reason::NotInSlate, 0), b"a"),
+    ]
 }

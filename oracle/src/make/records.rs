@@ -1,7 +1,8 @@
 //! Records in order, to drive one place from.
 
-use crate::order::{fresh, HELD, LIMIT, STEP, UTF_8};
+use crate::order::{fresh, in_order, HELD, LIMIT, STEP, UTF_8};
 use crate::random::Random;
+use crate::reason::Reason;
 use crate::record::Record;
 
 /// Any record that the place can hold.
@@ -105,6 +106,16 @@ pub fn bounds(place: u8) -> Vec<Record> {
         ..*record
     };
     chosen.enumerate().map(at_bounds).collect()
+}
+
+/// Records without a score: each reason that the place can have, at some
+/// places of bytes.
+pub fn dropped(place: u8) -> Vec<Record> {
+    let fits = |at: u64| {
+        let with = Reason::ALL.map(|reason| Record::none(reason, at));
+        with.into_iter().filter(|record| in_order(place, record))
+    };
+    [0, 1, 7, LIMIT].into_iter().flat_map(fits).collect()
 }
 
 /// Every state of the place, its counts and scores apart; for EUC-KR and Big5

@@ -1,8 +1,8 @@
 //! Whole streams: commands of the replay format, to stand after lent data.
 
-use super::cuts::{cut_up, CUT};
+use super::cuts::{cut_up, cuts, CUT};
 use super::text::{damage, text, Text, ALL, VALID};
-use super::{kept, tables, TELLING};
+use super::{kept, reasons, tables, TELLING};
 use crate::order::LIMIT;
 use crate::random::Random;
 use std::io::{Result, Write};
@@ -23,6 +23,15 @@ enum End {
 }
 
 const ENDS: [End; 3] = [End::Open, End::Closed, End::ClosedByEmpty];
+const CLOSED: [End; 2] = [End::Closed, End::ClosedByEmpty];
+
+/// How a stream that is cut is fed.
+#[derive(Clone, Copy)]
+struct Way {
+    /// Whether empty chunks stand between the others.
+    with_empty: bool,
+    end: End,
+}
 
 impl<W: Write> Script<'_, W> {
     fn start(&mut self, bits: u8) -> Result<()> {
@@ -96,14 +105,45 @@ impl<W: Write> Script<'_, W> {
     /// Every cut of each listed stream, every end, with and without empty
     /// chunks between.
     fn cuts(&mut self, count: u64) -> Result<()> {
-        let cuts = |stream: &[u8]| 1u64 << stream.len().saturating_sub(1);
-        let total: u64 = CUT.iter().map(|stream| cuts(stream) * 6).sum();
+        let ways = [false, true].map(|with_empty| ENDS.map(|end| Way { with_empty, end }));
+        self.every_cut(CUT, &ways.concat(), count)
+    }
+
+    /// Every cut of the streams in which places drop out, closed both ways.
+    fn reasons(&mut self, count: u64) -> Result<()> {
+        let ways = CLOSED.map(|end| Way { with_empty: false, end });
+        self.every_cut(&reasons::streams(), &ways, count)
+    }
+
+    /// Three cuts of each of these: none, every byte alone, and any.
+    fn reasons_few(&mut self, count: u64) -> Result<()> {
+        let streams = reasons::streams();
+        let total = streams.len() * 3;
+        for index in (0..total).filter(|&index| kept(index as u64, total as u64, count)) {
+            let stream = &streams[index / 3];
+            let cut = match index % 3 {
+                0 => 0,
+                1 => cuts(stream) - 1,
+                _ => self.random.below(cuts(stream)),
+            };
+            self.start(0xFF)?;
+            self.chunks(&cut_up(stream, cut, false), CLOSED[index % 2])?;
+        }
+        Ok(())
+    }
+
+    /// Every cut of each stream, in each of the ways; of them all `count`.
+    fn every_cut<S: AsRef<[u8]>>(&mut self, all: &[S], ways: &[Way], count: u64) -> Result<()> {
+        let streams = || all.iter().map(AsRef::as_ref);
+        let total = streams().map(cuts).sum::<u64>() * ways.len() as u64;
         let mut index = 0;
-        for stream in CUT {
-            for (cut, way) in (0..cuts(stream)).flat_map(|cut| (0..6).map(move |way| (cut, way))) {
+        for stream in streams() {
+            for (cut, way) in
+                (0..cuts(stream)).flat_map(|cut| ways.iter().map(move |way| (cut, way)))
+            {
                 if kept(index, total, count) {
                     self.start(0xFF)?;
-                    self.chunks(&cut_up(stream, cut, way >= 3), ENDS[way % 3])?;
+                    self.chunks(&cut_up(stream, cut, way.with_empty), way.end)?;
                 }
                 index += 1;
             }
@@ -194,6 +234,8 @@ pub fn run(kind: &str, seed: u64, count: u64, out: &mut impl Write) -> Result<bo
     match kind {
         "short" => script.short(count)?,
         "cuts" => script.cuts(count)?,
+        "reasons" => script.reasons(count)?,
+        "reasons-few" => script.reasons_few(count)?,
         "heads" => script.heads(count)?,
         "random" => script.texts(&ALL, false, count)?,
         "mostly-valid" => script.texts(&VALID, false, count)?,

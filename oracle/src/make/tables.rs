@@ -65,6 +65,7 @@ pub fn named(name: &str, seed: u64) -> Option<Tables> {
         "random" => Some(random(seed)),
         "mild" => Some(mild(seed)),
         "class255" => Some(class255(seed)),
+        "ascii255" => Some(ascii255()),
         _ => None,
     }
 }
@@ -253,6 +254,19 @@ fn class255(seed: u64) -> Tables {
         for _ in 0..12 {
             tables.set(Part::Class(place), usize::from(random.byte()), 255);
         }
+    }
+    tables
+}
+
+/// The demonstration data with class 255 for `z`, for the space, which the
+/// close feeds, or for both.
+fn ascii255() -> Tables {
+    let mut tables = demo();
+    for place in [4, 5, 7] {
+        tables.set(Part::Class(place), usize::from(b'z'), 255);
+    }
+    for place in [4, 6, 7] {
+        tables.set(Part::Class(place), usize::from(b' '), 255);
     }
     tables
 }

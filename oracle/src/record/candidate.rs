@@ -2,6 +2,7 @@
 
 use super::Record;
 use crate::lent::{SingleByteData, SINGLE};
+use crate::order::fresh;
 use crate::stand::iso_2022_jp::{Iso2022Jp, State};
 use crate::stand::{pairs::Pairs, utf_8::Utf8, Decoder};
 use crate::{
@@ -11,10 +12,18 @@ use crate::{
 };
 
 impl Record {
-    /// The candidate of this place with this record.
+    /// The candidate of this place with this record; a fresh one without a
+    /// score if the record has none.
     pub fn candidate(&self, place: u8) -> Candidate {
+        match self.live {
+            true => Candidate { inner: self.inner(place), score: Some(self.score) },
+            false => Candidate { inner: fresh(place).inner(place), score: None },
+        }
+    }
+
+    fn inner(&self, place: u8) -> InnerCandidate {
         let data = &SINGLE[usize::from(place.saturating_sub(4))];
-        let inner = match place {
+        match place {
             0 => self.utf_8(),
             1 => self.iso_2022_jp(),
             2 => self.euc_kr(),
@@ -23,9 +32,7 @@ impl Record {
             5 => self.logical(data),
             6 => self.visual(data),
             _ => self.arabic_french(data),
-        };
-        let score = self.live.then_some(self.score);
-        Candidate { inner, score }
+        }
     }
 
     fn held(&self) -> Option<i64> {

@@ -9,10 +9,9 @@ use crate::{
 };
 
 impl Record {
-    pub fn of(candidate: &Candidate) -> Self {
-        let Some(score) = candidate.score else {
-            return Record::default();
-        };
+    /// `None` if the candidate has no score.
+    pub fn of(candidate: &Candidate) -> Option<Self> {
+        let score = candidate.score?;
         let fields = match &candidate.inner {
             InnerCandidate::Utf8(c) => of_utf_8(c),
             InnerCandidate::Iso2022(c) => of_iso_2022_jp(c),
@@ -23,7 +22,7 @@ impl Record {
             InnerCandidate::Visual(c) => of_visual(c),
             InnerCandidate::ArabicFrench(c) => of_arabic_french(c),
         };
-        Record { live: true, score, ..fields }
+        Some(Record { live: true, score, ..fields })
     }
 }
 

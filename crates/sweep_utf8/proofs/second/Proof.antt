@@ -23,6 +23,9 @@ shared-slice-read-taken c = search needs
 taken-requires : tie.Need-taken-requires Inv-loop μ-loop
 taken-requires c κs = search needs
 
+add-i : tie.Need-add-i Inv-loop μ-loop
+add-i c = search needs
+
 returns : tie.Need-returns Inv-loop μ-loop
 returns c = search needs
 
@@ -31,9 +34,6 @@ is-possible-requires c κs = search needs
 
 returns-2 : tie.Need-returns-2 Inv-loop μ-loop
 returns-2 c = search needs
-
-add-i : tie.Need-add-i Inv-loop μ-loop
-add-i c = search needs
 
 loop-less : tie.Need-loop-less Inv-loop μ-loop
 loop-less c = search needs
@@ -57,10 +57,10 @@ second-spec =
     loop-holds
     shared-slice-read-taken
     taken-requires
+    add-i
     returns
     is-possible-requires
     returns-2
-    add-i
     loop-less
     loop-again
     returns-3

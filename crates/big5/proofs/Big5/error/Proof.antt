@@ -20,7 +20,7 @@ unfolding errorOf
 returns c =
     let s = c .before .before .before .before in
     let t : isPair (s .args .self .«prev_byte») (s .args .b) ≡ true = sym (c .before .before .before .is-pair .ensures) ∙ c .before .before .if1 .taken in
-    rw t (c .after-byte .ensures ∙ ap (afterByte (s .args .lead) (s .args .b)) (c .before .unmapped .ensures))
+    rw t (c .after-byte .ensures _ ∙ ap (afterByte (s .args .lead) (s .args .b)) (c .before .unmapped .ensures))
 
 stray-requires : tie.Need-stray-requires
 stray-requires c κs = search needs

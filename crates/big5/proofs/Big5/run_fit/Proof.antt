@@ -6,12 +6,14 @@ use lib.ListN.{length}
 use borrow.Author.Needs.{needs}
 use mir.Syntax.{w64}
 use mir.Val.{toZ}
-use Rattle.laws.specs.Going.{Going, going-start, going-next, going-fits, going-none, going-done, going-small}
+use Rattle.laws.specs.Going.{Going, going-start, going-next, going-fits, going-none, going-at, going-done, going-small}
 use Rattle.laws.specs.Limit.{limit}
 use Rattle.weights.specs.Weights.{perByte}
+use Rattle.pairs.specs.Pairs.{reasonBy}
 use Rattle.big5.specs.Scoring.{lent, stepOf}
 use Rattle.big5.specs.Big5.{Sound, outOf, ranAs}
 use Rattle.big5.specs.Big5Laws.{sound-any, turn-within}
+use Rattle.big5.specs.declared.Ran.the-variants.{Dropped}
 use Rattle.big5.proofs.Big5.run_fit.Statement.{statement}
 use Rattle.big5.proofs.Big5.run_fit.Tie as tie
 
@@ -40,17 +42,22 @@ add-s : tie.Need-add-s Inv-loop μ-loop
 add-s c =
     let t = c .before .before .before .before .before in
     let s = t .before .before .before .before in
-    let gave = sym (c .before .before .before .step .ensures) ∙ ap outOf (c .before .next .given .1) in
+    let gave = sym (c .before .before .before .step .ensures) ∙ ap (outOf _) (c .before .next .given .1) in
     let kept = turn-within _ (s .pre .0) _ _ _ _ _ (t .before .loop .inv .sound) gave in
     going-fits (t .before .loop .inv) (t .loop-test .taken) gave (kept .1) (s .pre .1 .1 .0) (omega arith)
 
 enum-told : tie.Need-enum-told Inv-loop μ-loop
 enum-told c = search needs
 
+reason-requires : tie.Need-reason-requires Inv-loop μ-loop
+reason-requires c κs = search needs
+
 returns : tie.Need-returns Inv-loop μ-loop
 returns c =
-    let t = c .before .before .before .before in
-    (ap ranAs (going-none (t .before .loop .inv) (t .loop-test .taken) (sym (c .before .before .step .ensures) ∙ ap outOf (c .enum-told .given .1))), tt)
+    let t = c .before .before .before .before .before in
+    let going = t .before .loop .inv in
+    let gave = sym (c .before .before .before .step .ensures) ∙ ap (outOf _) (c .before .enum-told .given .1) in
+    (rw (c .reason .ensures) (ap (Dropped (reasonBy (t .before .loop .m .lead))) (going-at going (t .loop-test .taken) gave) ∙ ap (ranAs _) (going-none going (t .loop-test .taken) gave)), tt)
 
 add-i : tie.Need-add-i Inv-loop μ-loop
 add-i c = omega arith
@@ -62,14 +69,14 @@ loop-again : tie.Need-loop-again Inv-loop μ-loop
 loop-again c =
     let t = c .before .before .before .before .before in
     let s = t .before .before .before .before in
-    let gave = sym (c .before .before .before .step .ensures) ∙ ap outOf (c .before .next .given .1) in
+    let gave = sym (c .before .before .before .step .ensures) ∙ ap (outOf _) (c .before .next .given .1) in
     let kept = turn-within _ (s .pre .0) _ _ _ _ _ (t .before .loop .inv .sound) gave in
     going-next (t .before .loop .inv) (t .loop-test .taken) gave (kept .1) (s .pre .1 .1 .0) (omega arith) (kept .0)
 
 returns-2 : tie.Need-returns-2 Inv-loop μ-loop
 returns-2 c =
     let going = c .before .loop .inv in
-    (ap ranAs (going-done going (omega arith)), going-small going (omega arith))
+    (ap (ranAs _) (going-done going (omega arith)), going-small going (omega arith))
 
 pub run-fit-spec : {M : Type 1} → statement M
 run-fit-spec =
@@ -83,6 +90,7 @@ run-fit-spec =
     enum-known-next
     add-s
     enum-told
+    reason-requires
     returns
     add-i
     loop-less

@@ -52,13 +52,13 @@ returns-2 : tie.Need-returns-2
 returns-2 c =
     let s = c .before .before .before .before .before .before .before in
     let d = c .before .before .before .before .before .decode in
-    c .after-byte .ensures ∙ (ap (afterByte (d .result .lead) (s .args .b)) (c .before .point .ensures) ∙ step-on (lent (s .args .index .now) (s .args .w)) (s .args .self) (s .args .b) (d .result) (d .ensures) _ (c .before .before .before .event .given .1))
+    c .after-byte .ensures _ ∙ (ap (afterByte (d .result .lead) (s .args .b)) (c .before .point .ensures) ∙ step-on (lent (s .args .index .now) (s .args .w)) (s .args .self) (s .args .b) (d .result) (d .ensures) _ (c .before .before .before .event .given .1))
 
 returns-3 : tie.Need-returns-3
 returns-3 c =
     let s = c .before .before .before .before .before .before .before in
     let d = c .before .before .before .before .before .decode in
-    c .after-byte2 .ensures ∙ (ap (afterByte (d .result .lead) (s .args .b)) (c .before .other .ensures ∙ ap (otherOf (s .args .self)) (thru64 (s .args .w .other) term (s .pre .0 .other) (omega arith))) ∙ step-on (lent (s .args .index .now) (s .args .w)) (s .args .self) (s .args .b) (d .result) (d .ensures) _ (c .before .before .before .enum-told2 .given .1))
+    c .after-byte2 .ensures _ ∙ (ap (afterByte (d .result .lead) (s .args .b)) (c .before .other .ensures ∙ ap (otherOf (s .args .self)) (thru64 (s .args .w .other) term (s .pre .0 .other) (omega arith))) ∙ step-on (lent (s .args .index .now) (s .args .w)) (s .args .self) (s .args .b) (d .result) (d .ensures) _ (c .before .before .before .enum-told2 .given .1))
 
 returns-4 : tie.Need-returns-4
 returns-4 c =

@@ -26,7 +26,7 @@ returns : tie.Need-returns
 returns c =
     let s = c .before .before .before .before .before in
     let x : isExtension (s .args .self .«prev_byte») ≡ true = sym (c .before .before .before .before .is-extension .ensures) ∙ c .before .before .before .if1 .taken in
-    c .after-byte .ensures ∙ (ap (afterByte (s .args .lead) (s .args .b)) (c .before .extension .ensures) ∙ stray-extends (s .args .w) (s .args .self) (s .args .lead) (s .args .b) (s .args .size) (extends-ascii (s .args .self .«prev_byte») (s .args .b) x (c .before .before .if2 .taken)))
+    c .after-byte .ensures _ ∙ (ap (afterByte (s .args .lead) (s .args .b)) (c .before .extension .ensures) ∙ stray-extends (s .args .w) (s .args .self) (s .args .lead) (s .args .b) (s .args .size) (extends-ascii (s .args .self .«prev_byte») (s .args .b) x (c .before .before .if2 .taken)))
 
 extension-requires-2 : tie.Need-extension-requires-2
 extension-requires-2 c κs = search needs
@@ -38,7 +38,7 @@ returns-2 : tie.Need-returns-2
 returns-2 c =
     let s = c .before .before .before .before .before .before in
     let x : isExtension (s .args .self .«prev_byte») ≡ true = sym (c .before .before .before .before .before .is-extension .ensures) ∙ c .before .before .before .before .if1 .taken in
-    c .after-byte2 .ensures ∙ (ap (afterByte (s .args .lead) (s .args .b)) (c .before .extension2 .ensures) ∙ stray-extends (s .args .w) (s .args .self) (s .args .lead) (s .args .b) (s .args .size) (extends-ff (s .args .self .«prev_byte») (s .args .b) x (c .before .before .if3 .taken)))
+    c .after-byte2 .ensures _ ∙ (ap (afterByte (s .args .lead) (s .args .b)) (c .before .extension2 .ensures) ∙ stray-extends (s .args .w) (s .args .self) (s .args .lead) (s .args .b) (s .args .size) (extends-ff (s .args .self .«prev_byte») (s .args .b) x (c .before .before .if3 .taken)))
 
 after-byte-requires-3 : tie.Need-after-byte-requires-3
 after-byte-requires-3 c κs = search needs
@@ -48,7 +48,7 @@ returns-3 c =
     let s = c .before .before .before .before .before .before in
     let j = c .before .before .before .before in
     let e = thru64 (s .args .w .extension) term (s .pre .extension) (omega arith) in
-    c .after-byte3 .ensures ∙ (ap (λ z. afterByte (s .args .lead) (s .args .b) (scored Other Nothing z)) e ∙ stray-alone (s .args .w) (s .args .self) (s .args .lead) (s .args .b) (s .args .size) (extends-not (s .args .self .«prev_byte») (s .args .b) (⊎-elim (λ w. inl (sym (j .before .is-extension .ensures) ∙ w .0 .taken, w .1 .left, w .2 .left)) (λ w. inr (sym (j .before .is-extension .ensures) ∙ w .left)) (j .if1 .came))) (c .before .before .before .if4 .taken) (c .before .before .if5 .taken))
+    c .after-byte3 .ensures _ ∙ (ap (λ z. afterByte (s .args .lead) (s .args .b) (scored Other Nothing z)) e ∙ stray-alone (s .args .w) (s .args .self) (s .args .lead) (s .args .b) (s .args .size) (extends-not (s .args .self .«prev_byte») (s .args .b) (⊎-elim (λ w. inl (sym (j .before .is-extension .ensures) ∙ w .0 .taken, w .1 .left, w .2 .left)) (λ w. inr (sym (j .before .is-extension .ensures) ∙ w .left)) (j .if1 .came))) (c .before .before .before .if4 .taken) (c .before .before .if5 .taken))
 
 returns-4 : tie.Need-returns-4
 returns-4 c =

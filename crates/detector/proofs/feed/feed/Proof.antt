@@ -8,7 +8,7 @@ use Rattle.laws.specs.Lists.{rest-is}
 use Rattle.tables.specs.Tables.{Tables, tables, sizedB}
 use Rattle.state.specs.Order.{InOrder}
 use Rattle.detector.specs.Feed.{refusalOf, advanceOf, accepted, feedOf}
-use Rattle.detector.specs.FeedLaws.{refused-stays, accept-passed, feed-refused, feed-accepted, way-nothing, way-part, way-after}
+use Rattle.detector.specs.FeedLaws.{refused-stays, accept-passed, feed-refused, feed-accepted, body-short, way-nothing, way-part, way-after}
 use Rattle.detector.specs.Front.{triggerOf, uncounted}
 use Rattle.detector.specs.Due.{DueBy, Roomy}
 use Rattle.detector.specs.FrontLaws.{part-within, after-within, after-new}
@@ -52,7 +52,13 @@ module _ (c : tie.After-uncounted) where
   roomy : (part : List ℕ) → length part ≤ length (first .args .chunk .now) → Roomy (c .uncounted .result) (length part)
   roomy part h =
       let f = passed (c .before .before .before .before) in
-      rw uncounted-is (record { accepted = f .short; seen = omega (arith, f .in-order .front .counted, f .in-order .front .most); short = omega (arith, f .short) })
+      rw uncounted-is
+      (record {
+        accepted = f .short;
+        seen = omega (arith, f .in-order .front .counted, f .in-order .front .most);
+        bodied = body-short (lent first) (first .args .state) (first .args .chunk .now) (first .args .last) f;
+        short = omega (arith, f .short);
+      })
 
 due-is : (c : tie.After-due-by) → DueBy (first (c .before) .args .state .front .context) (triggerOf (first (c .before) .args .state .front) (first (c .before) .args .chunk .now)) (c .due-by .result)
 due-is c = rw (c .before .before .trigger-in .ensures) at (c .due-by .ensures .0)
@@ -80,7 +86,10 @@ trigger-in-requires : tie.Need-trigger-in-requires
 trigger-in-requires c κs = search needs
 
 uncounted-requires : tie.Need-uncounted-requires
-uncounted-requires c κs = let f = passed (c .before .before .before) in record { accepted = f .in-order .front .most; seen = omega (arith, f .in-order .front .counted, f .in-order .front .most); short = omega (arith, f .short) }
+uncounted-requires c κs =
+    let f = passed (c .before .before .before) in
+    let o = f .in-order .front in
+    record { accepted = f .in-order .front .most; seen = omega (arith, o .counted, o .most); bodied = omega (arith, o .bodied, o .most); short = omega (arith, f .short) }
 
 due-by-requires : tie.Need-due-by-requires
 due-by-requires c κs = search needs

@@ -12,8 +12,11 @@ escaped-requires c κs = search needs
 add-t9 : tie.Need-add-t9
 add-t9 c = search needs
 
+body-after-requires : tie.Need-body-after-requires
+body-after-requires c κs = search needs
+
 returns : tie.Need-returns
-returns c = rw (c .before .escaped .ensures, c .before .before .saved .ensures)
+returns c = rw (c .body-after .ensures, c .before .before .escaped .ensures, c .before .before .before .saved .ensures)
 
 pub uncounted-spec : {M : Type 1} → statement M
-uncounted-spec = tie.close (tie.spec saved-requires escaped-requires add-t9 returns)
+uncounted-spec = tie.close (tie.spec saved-requires escaped-requires add-t9 body-after-requires returns)

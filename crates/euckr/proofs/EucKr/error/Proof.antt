@@ -23,7 +23,7 @@ unfolding errorOf
 returns c =
     let s = c .before .before .before .before .before in
     let p : isUserPair (s .args .self .«prev_byte») (s .args .b) ≡ true = sym (c .before .before .before .before .is-user-pair .ensures) ∙ c .before .before .before .if1 .taken in
-    rw p (c .after-byte .ensures ∙ ap (afterByte (s .args .lead) (s .args .b)) (c .before .hanja .ensures ∙ ap (hanjaOf (s .args .w) (s .args .self)) (thru64 (s .args .w .pua) term (s .pre .0 .pua) (omega arith))))
+    rw p (c .after-byte .ensures _ ∙ ap (afterByte (s .args .lead) (s .args .b)) (c .before .hanja .ensures ∙ ap (hanjaOf (s .args .w) (s .args .self)) (thru64 (s .args .w .pua) term (s .pre .0 .pua) (omega arith))))
 
 is-mac-symbol-requires : tie.Need-is-mac-symbol-requires
 is-mac-symbol-requires c κs = search needs
@@ -40,7 +40,7 @@ returns-2 c =
     let s = c .before .before .before .before .before .before .before in
     let p : isUserPair (s .args .self .«prev_byte») (s .args .b) ≡ false = sym (c .before .before .before .before .before .before .is-user-pair .ensures) ∙ c .before .before .before .before .before .if1 .left in
     let q : isMacSymbol (s .args .self .«prev_byte») (s .args .b) ≡ true = sym (c .before .before .before .before .is-mac-symbol .ensures) ∙ c .before .before .before .if2 .taken in
-    rw (p, q) (c .after-byte2 .ensures ∙ ap (afterByte (s .args .lead) (s .args .b)) (c .before .other .ensures ∙ ap (otherOf (s .args .self)) (thru64 (s .args .w .mac) term (s .pre .0 .mac) (omega arith))))
+    rw (p, q) (c .after-byte2 .ensures _ ∙ ap (afterByte (s .args .lead) (s .args .b)) (c .before .other .ensures ∙ ap (otherOf (s .args .self)) (thru64 (s .args .w .mac) term (s .pre .0 .mac) (omega arith))))
 
 stray-requires : tie.Need-stray-requires
 stray-requires c κs = search needs

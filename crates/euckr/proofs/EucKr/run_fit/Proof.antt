@@ -6,12 +6,14 @@ use lib.ListN.{length}
 use borrow.Author.Needs.{needs}
 use mir.Syntax.{w64}
 use mir.Val.{toZ}
-use Rattle.laws.specs.Going.{Going, going-start, going-next, going-fits, going-none, going-done, going-small}
+use Rattle.laws.specs.Going.{Going, going-start, going-next, going-fits, going-none, going-at, going-done, going-small}
 use Rattle.laws.specs.Limit.{room}
 use Rattle.weights.specs.Weights.{perByte}
+use Rattle.pairs.specs.Pairs.{reasonBy}
 use Rattle.euckr.specs.Scoring.{lent, stepOf}
 use Rattle.euckr.specs.EucKr.{Sound, outOf, ranAs}
 use Rattle.euckr.specs.EucKrLaws.{sound-more, turn-sound}
+use Rattle.euckr.specs.declared.Ran.the-variants.{Dropped}
 use Rattle.euckr.proofs.EucKr.run_fit.Statement.{statement}
 use Rattle.euckr.proofs.EucKr.run_fit.Tie as tie
 
@@ -42,16 +44,21 @@ add-s c =
     let t = c .before .before .before .before .before in
     let s = t .before .before .before .before in
     let told = c .before .next .given .1 in
-    let gave = sym (r .ensures .0) ∙ ap outOf told in
+    let gave = sym (r .ensures .0) ∙ ap (outOf _) told in
     going-fits (t .before .loop .inv) (t .loop-test .taken) gave (rw told at (r .ensures .1)) (s .pre .1 .1 .0) (omega arith)
 
 enum-told : tie.Need-enum-told Inv-loop μ-loop
 enum-told c = search needs
 
+reason-requires : tie.Need-reason-requires Inv-loop μ-loop
+reason-requires c κs = search needs
+
 returns : tie.Need-returns Inv-loop μ-loop
 returns c =
-    let t = c .before .before .before .before in
-    (ap ranAs (going-none (t .before .loop .inv) (t .loop-test .taken) (sym (c .before .before .step .ensures .0) ∙ ap outOf (c .enum-told .given .1))), tt)
+    let t = c .before .before .before .before .before in
+    let going = t .before .loop .inv in
+    let gave = sym (c .before .before .before .step .ensures .0) ∙ ap (outOf _) (c .before .enum-told .given .1) in
+    (rw (c .reason .ensures) (ap (Dropped (reasonBy (t .before .loop .m .lead))) (going-at going (t .loop-test .taken) gave) ∙ ap (ranAs _) (going-none going (t .loop-test .taken) gave)), tt)
 
 add-i : tie.Need-add-i Inv-loop μ-loop
 add-i c = omega arith
@@ -65,13 +72,16 @@ loop-again c =
     let t = c .before .before .before .before .before in
     let s = t .before .before .before .before in
     let told = c .before .next .given .1 in
-    let gave = sym (r .ensures .0) ∙ ap outOf told in
+    let gave = sym (r .ensures .0) ∙ ap (outOf _) told in
     going-next (t .before .loop .inv) (t .loop-test .taken) gave (rw told at (r .ensures .1)) (s .pre .1 .1 .0) (omega arith) (turn-sound _ (s .pre .0) _ _ _ _ _ (t .before .loop .inv .sound) gave)
+
+kept-requires : tie.Need-kept-requires Inv-loop μ-loop
+kept-requires c κs = search needs
 
 returns-2 : tie.Need-returns-2 Inv-loop μ-loop
 returns-2 c =
-    let going = c .before .loop .inv in
-    (ap ranAs (going-done going (omega arith)), going-small going (omega arith))
+    let going = c .before .before .loop .inv in
+    (rw (c .kept .ensures) (ap (ranAs _) (going-done going (omega arith))), going-small going (omega arith))
 
 pub run-fit-spec : {M : Type 1} → statement M
 run-fit-spec =
@@ -85,8 +95,10 @@ run-fit-spec =
     enum-known-next
     add-s
     enum-told
+    reason-requires
     returns
     add-i
     loop-less
     loop-again
+    kept-requires
     returns-2)

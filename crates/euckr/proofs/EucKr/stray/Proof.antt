@@ -26,7 +26,7 @@ returns : tie.Need-returns
 returns c =
     let s = c .before .before .before .before .before in
     let x : isExtension (s .args .self .«prev_byte») ≡ true = sym (c .before .before .before .before .is-extension .ensures) ∙ c .before .before .before .if1 .taken in
-    c .after-byte .ensures ∙ (ap (afterByte (s .args .lead) (s .args .b)) (c .before .extension .ensures) ∙ stray-extends (s .args .w) (s .args .self) (s .args .lead) (s .args .b) (s .args .size) (extends-ascii (s .args .self .«prev_byte») (s .args .b) x (c .before .before .if2 .taken)))
+    c .after-byte .ensures _ ∙ (ap (afterByte (s .args .lead) (s .args .b)) (c .before .extension .ensures) ∙ stray-extends (s .args .w) (s .args .self) (s .args .lead) (s .args .b) (s .args .size) (extends-ascii (s .args .self .«prev_byte») (s .args .b) x (c .before .before .if2 .taken)))
 
 is-lone-requires : tie.Need-is-lone-requires
 is-lone-requires c κs = search needs
@@ -41,7 +41,7 @@ returns-2 : tie.Need-returns-2
 returns-2 c =
     let s = c .before .before .before .before .before .before .before in
     let x : isExtension (s .args .self .«prev_byte») ≡ true = sym (c .before .before .before .before .before .before .is-extension .ensures) ∙ c .before .before .before .before .before .if1 .taken in
-    c .after-byte2 .ensures ∙ (ap (afterByte (s .args .lead) (s .args .b)) (c .before .extension2 .ensures) ∙ stray-extends (s .args .w) (s .args .self) (s .args .lead) (s .args .b) (s .args .size) (extends-lone (s .args .self .«prev_byte») (s .args .b) x (c .before .before .before .before .if2 .left) (sym (c .before .before .before .is-lone .ensures) ∙ c .before .before .if3 .taken)))
+    c .after-byte2 .ensures _ ∙ (ap (afterByte (s .args .lead) (s .args .b)) (c .before .extension2 .ensures) ∙ stray-extends (s .args .w) (s .args .self) (s .args .lead) (s .args .b) (s .args .size) (extends-lone (s .args .self .«prev_byte») (s .args .b) x (c .before .before .before .before .if2 .left) (sym (c .before .before .before .is-lone .ensures) ∙ c .before .before .if3 .taken)))
 
 is-lone-requires-2 : tie.Need-is-lone-requires-2
 is-lone-requires-2 c κs = search needs
@@ -57,7 +57,7 @@ returns-3 c =
     let s = c .before .before .before .before .before .before .before .before in
     let j = c .before .before .before .before .before .before in
     let e = c .before .plain .ensures ∙ ap (scored Other 0 Nothing) (thru64 (s .args .w .extension) term (s .pre .extension) (omega arith)) in
-    c .after-byte3 .ensures ∙ (ap (afterByte (s .args .lead) (s .args .b)) e ∙ stray-alone (s .args .w) (s .args .self) (s .args .lead) (s .args .b) (s .args .size) (extends-not (s .args .self .«prev_byte») (s .args .b) (⊎-elim (λ w. inl (sym (j .before .is-extension .ensures) ∙ w .0 .taken, w .1 .left, sym (w .2 .ensures) ∙ w .3 .left)) (λ w. inr (sym (j .before .is-extension .ensures) ∙ w .left)) (j .if1 .came))) (c .before .before .before .before .before .if4 .taken) (sym (c .before .before .before .before .is-lone2 .ensures) ∙ c .before .before .before .if5 .taken))
+    c .after-byte3 .ensures _ ∙ (ap (afterByte (s .args .lead) (s .args .b)) e ∙ stray-alone (s .args .w) (s .args .self) (s .args .lead) (s .args .b) (s .args .size) (extends-not (s .args .self .«prev_byte») (s .args .b) (⊎-elim (λ w. inl (sym (j .before .is-extension .ensures) ∙ w .0 .taken, w .1 .left, sym (w .2 .ensures) ∙ w .3 .left)) (λ w. inr (sym (j .before .is-extension .ensures) ∙ w .left)) (j .if1 .came))) (c .before .before .before .before .before .if4 .taken) (sym (c .before .before .before .before .is-lone2 .ensures) ∙ c .before .before .before .if5 .taken))
 
 returns-4 : tie.Need-returns-4
 returns-4 c =

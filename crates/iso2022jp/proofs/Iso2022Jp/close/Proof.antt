@@ -12,15 +12,15 @@ is-sound-requires c κs = search needs
 
 returns : tie.Need-returns
 unfolding closedOf
-returns c = pending _ _ (c .match .keys1) ∙ sym (if-fit _ _ _ _ _ (sym (c .before .before .is-sound .ensures) ∙ c .before .if1 .taken))
+returns c = pending _ _ (c .match .keys1) ∙ sym (if-fit _ _ _ _ _ _ (sym (c .before .before .is-sound .ensures) ∙ c .before .if1 .taken))
 
 returns-2 : tie.Need-returns-2
 unfolding closedOf
-returns-2 c = at-rest _ _ (c .match .keys2) ∙ sym (if-fit _ _ _ _ _ (sym (c .before .before .is-sound .ensures) ∙ c .before .if1 .taken))
+returns-2 c = at-rest _ _ (c .match .keys2) ∙ sym (if-fit _ _ _ _ _ _ (sym (c .before .before .is-sound .ensures) ∙ c .before .if1 .taken))
 
 returns-3 : tie.Need-returns-3
 unfolding closedOf
-returns-3 c = sym (if-unfit _ _ _ _ _ (sym (c .before .is-sound .ensures) ∙ c .if1 .left))
+returns-3 c = sym (if-unfit _ _ _ _ _ _ (sym (c .before .is-sound .ensures) ∙ c .if1 .left))
 
 pub close-spec : {M : Type 1} → statement M
 close-spec = tie.close (tie.spec is-sound-requires returns returns-2 returns-3)

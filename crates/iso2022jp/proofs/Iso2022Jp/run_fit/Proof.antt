@@ -5,7 +5,8 @@ use native.Mathlib.Omega.{arith}
 use borrow.Author.Needs.{needs}
 use lib.IntN.{pos}
 use lib.ListN.{length}
-use Rattle.laws.specs.Going.{Going, going-start, going-still, going-none, going-done}
+use Rattle.laws.specs.Going.{Going, going-start, going-still, going-none, going-at, going-done}
+use Rattle.iso2022jp.specs.declared.Ran.the-variants.{Dropped}
 use Rattle.iso2022jp.specs.Iso2022Jp.{Sound, Passes, outOf, ranAs, stepOf}
 use Rattle.iso2022jp.specs.Iso2022JpLaws.{step-live}
 use Rattle.iso2022jp.proofs.Iso2022Jp.run_fit.Statement.{statement}
@@ -47,13 +48,15 @@ step-requires c κs =
 enum-known-next : tie.Need-enum-known-next Inv-loop μ-loop
 enum-known-next c = search needs
 
-enum-told : tie.Need-enum-told Inv-loop μ-loop
-enum-told c = search needs
+enum-known-reason : tie.Need-enum-known-reason Inv-loop μ-loop
+enum-known-reason c = search needs
 
 returns : tie.Need-returns Inv-loop μ-loop
 returns c =
-    let t = c .before .before .before .before .before .before in
-    ap ranAs (going-none (t .before .loop .inv) (t .loop-test .taken) (sym (c .before .before .step .ensures) ∙ ap outOf (c .enum-told .given .1)))
+    let t = c .before .before .before .before .before .before .before in
+    let e = sym (c .before .before .before .step .ensures) ∙ ap outOf (c .before .reason .given .1) in
+    let going = t .before .loop .inv in
+    ap (Dropped (c .before .reason .given .0 .0)) (going-at going (t .loop-test .taken) e) ∙ ap (ranAs _) (going-none going (t .loop-test .taken) e)
 
 add-i-2 : tie.Need-add-i-2 Inv-loop μ-loop
 add-i-2 c = omega arith
@@ -68,7 +71,7 @@ loop-again-2 c =
     going-still (t .before .loop .inv) (t .loop-test .taken) e (step-live (t .before .before .before .before .args .index .now) _ _ _ _ e)
 
 returns-2 : tie.Need-returns-2 Inv-loop μ-loop
-returns-2 c = ap ranAs (going-done (c .before .loop .inv) (omega arith))
+returns-2 c = ap (ranAs _) (going-done (c .before .loop .inv) (omega arith))
 
 pub run-fit-spec : {M : Type 1} → statement M
 run-fit-spec =
@@ -84,7 +87,7 @@ run-fit-spec =
     loop-again
     step-requires
     enum-known-next
-    enum-told
+    enum-known-reason
     returns
     add-i-2
     loop-less-2

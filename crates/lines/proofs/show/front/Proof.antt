@@ -32,11 +32,8 @@ slice-aggregate-flag-2 c = search needs
 flag-requires-2 : tie.Need-flag-requires-2
 flag-requires-2 c κs = search needs
 
-slice-aggregate-count-2 : tie.Need-slice-aggregate-count-2
-slice-aggregate-count-2 c = search needs
-
-count-requires-2 : tie.Need-count-requires-2
-count-requires-2 c κs = search needs
+bytes-requires : tie.Need-bytes-requires
+bytes-requires c κs = search needs
 
 end-line-requires : tie.Need-end-line-requires
 end-line-requires c κs = search needs
@@ -46,7 +43,7 @@ same-length c = search needs
 
 returns : tie.Need-returns
 unfolding frontText
-returns c = follow _ _ _ (follow _ _ _ (follow _ _ _ (follow _ _ _ (follow _ _ _ (follow _ _ _ (c .before .before .before .before .before .before .before .before .before .before .before .before .before .before .before .before .before .before .before .before .before .before .before .before .before .before .before .before .before .before .word .ensures) (c .before .before .before .before .before .before .before .before .before .before .before .before .before .before .before .before .before .before .before .before .before .before .before .before .before .before .saved .ensures)) (c .before .before .before .before .before .before .before .before .before .before .before .before .before .before .before .before .before .before .before .before .before .flag .ensures)) (c .before .before .before .before .before .before .before .before .before .before .before .before .before .before .before .before .count .ensures)) (c .before .before .before .before .before .before .before .before .before .before .before .flag2 .ensures)) (c .before .before .before .before .before .before .count2 .ensures)) (c .before .before .end-line .ensures)
+returns c = follow _ _ _ (follow _ _ _ (follow _ _ _ (follow _ _ _ (follow _ _ _ (follow _ _ _ (c .before .before .before .before .before .before .before .before .before .before .before .before .before .before .before .before .before .before .before .before .before .before .before .before .before .before .before .before .before .word .ensures) (c .before .before .before .before .before .before .before .before .before .before .before .before .before .before .before .before .before .before .before .before .before .before .before .before .before .saved .ensures)) (c .before .before .before .before .before .before .before .before .before .before .before .before .before .before .before .before .before .before .before .before .flag .ensures)) (c .before .before .before .before .before .before .before .before .before .before .before .before .before .before .before .count .ensures)) (c .before .before .before .before .before .before .before .before .before .before .flag2 .ensures)) (c .before .before .before .before .before .before .bytes .ensures)) (c .before .before .end-line .ensures)
 
 pub front-spec : {M : Type 1} → statement M
 front-spec =
@@ -61,8 +58,7 @@ front-spec =
     count-requires
     slice-aggregate-flag-2
     flag-requires-2
-    slice-aggregate-count-2
-    count-requires-2
+    bytes-requires
     end-line-requires
     same-length
     returns)

@@ -2,10 +2,10 @@
 use mathlib.Core.Path.{_≡_, sym, _∙_}
 use Prim.Native.Nat.{_+_, _*_, _<_, _≤_}
 use native.Mathlib.Omega.{arith}
-use borrow.Author.Tests.{eq-eqb, ne-eqb, le-leb, lt-leb}
+use borrow.Author.Tests.{le-leb, lt-leb}
 use Rattle.laws.specs.Limit.{limit}
 use Rattle.kinds.specs.Kinds.{placeNumber}
-use Rattle.places.specs.OrderLaws.{reach-by, reach-most, place-other, place-begun, place-unbegun}
+use Rattle.places.specs.OrderLaws.{spaced-most, reach-by, reach-most, place-other, place-begun, place-unbegun}
 use Rattle.places.specs.Steps.{begunB}
 use borrow.Author.Needs.{needs}
 use Rattle.places.proofs.order.is_in_order.Statement.{statement}
@@ -25,7 +25,7 @@ place-number-requires c κs = search needs
 returns : tie.Need-returns
 returns c =
     let a = c .before .before .args in
-    λ closed q. place-other (a .bytes) closed (a .fed) (a .k) (a .place) (λ e. c .if1 .taken (c .before .place-number .ensures ∙ e))
+    place-other (a .bytes) (a .body) (a .closed) (a .fed) (a .k) (a .place) (λ e. c .if1 .taken (c .before .place-number .ensures ∙ e))
 
 is-begun-requires : tie.Need-is-begun-requires
 is-begun-requires c κs = search needs
@@ -39,7 +39,7 @@ size-of-requires c κs = search needs
 mul-if3 : tie.Need-mul-if3
 mul-if3 c =
     let s = first (c .before .before .before) in
-    let h : c .before .reach .result ≤ limit + 1 = rw (c .before .reach .ensures) (reach-most (s .args .place .machine) (s .args .bytes) (s .args .spaced) (limit + 1) (omega (arith, s .pre .0)) (s .pre .1)) in
+    let h : c .before .reach .result ≤ limit + 1 = rw (c .before .reach .ensures) (reach-most (s .args .place .machine) (s .args .bytes) (s .args .spaced) (limit + 1) (omega (arith, s .pre .0)) (rw (s .pre .1) (spaced-most (s .args .bytes) limit (s .args .closed) (s .pre .0)))) in
     search needs
 
 is-sound-requires : tie.Need-is-sound-requires
@@ -49,23 +49,21 @@ returns-2 : tie.Need-returns-2
 returns-2 c =
     let k = c .before .before .before .before .before in
     let a = first k .args in
-    λ closed q.
-    let far = c .before .before .before .reach .ensures ∙ reach-by (a .place .machine) (a .bytes) (a .spaced) closed q in
+    let far = c .before .before .before .reach .ensures ∙ reach-by (a .place .machine) (a .bytes) (a .spaced) (a .closed) (first k .pre .1) in
     let small = rw (far, c .before .before .size-of .ensures) at (le-leb _ _ (c .before .if3 .taken)) in
-    place-begun (a .bytes) closed (a .fed) (a .k) (a .place) (kind k) (c .is-sound .result) (sym (k .is-begun .ensures) ∙ c .before .before .before .before .if2 .taken) (rw small (rw far at (c .is-sound .ensures)))
+    place-begun (a .bytes) (a .body) (a .closed) (a .fed) (a .k) (a .place) (kind k) (c .is-sound .result) (sym (k .is-begun .ensures) ∙ c .before .before .before .before .if2 .taken) (rw small (rw far at (c .is-sound .ensures)))
 
 returns-3 : tie.Need-returns-3
 returns-3 c =
     let k = c .before .before .before .before in
     let a = first k .args in
     let h : 10737418240 * c .before .before .reach .result < c .before .size-of .result = omega (arith, c .if3 .left) in
-    λ closed q.
-    let far = c .before .before .reach .ensures ∙ reach-by (a .place .machine) (a .bytes) (a .spaced) closed q in
+    let far = c .before .before .reach .ensures ∙ reach-by (a .place .machine) (a .bytes) (a .spaced) (a .closed) (first k .pre .1) in
     let large = rw (far, c .before .size-of .ensures) at (lt-leb (c .before .size-of .result) (10737418240 * c .before .before .reach .result) h) in
-    place-begun (a .bytes) closed (a .fed) (a .k) (a .place) (kind k) _ (sym (k .is-begun .ensures) ∙ c .before .before .before .if2 .taken) (rw large (lt-leb _ _ h))
+    place-begun (a .bytes) (a .body) (a .closed) (a .fed) (a .k) (a .place) (kind k) _ (sym (k .is-begun .ensures) ∙ c .before .before .before .if2 .taken) (rw large (lt-leb _ _ h))
 
-size-of-requires-2 : tie.Need-size-of-requires-2
-size-of-requires-2 c κs = search needs
+is-resting-requires : tie.Need-is-resting-requires
+is-resting-requires c κs = search needs
 
 is-fresh-requires : tie.Need-is-fresh-requires
 is-fresh-requires c κs = search needs
@@ -74,14 +72,13 @@ returns-4 : tie.Need-returns-4
 returns-4 c =
     let k = c .before .before .before .before in
     let a = first k .args in
-    let zero = sym (c .before .before .size-of2 .ensures) ∙ c .before .if4 .taken in
-    λ closed q. place-unbegun (a .bytes) closed (a .fed) (a .k) (a .place) (kind k) (c .is-fresh .result) (sym (k .is-begun .ensures) ∙ c .before .before .before .if2 .left) (rw (eq-eqb _ 0 zero) (c .is-fresh .ensures))
+    place-unbegun (a .bytes) (a .body) (a .closed) (a .fed) (a .k) (a .place) (kind k) (c .is-fresh .result) (sym (k .is-begun .ensures) ∙ c .before .before .before .if2 .left) (rw (sym (c .before .before .is-resting .ensures) ∙ c .before .if4 .taken) (c .is-fresh .ensures))
 
 returns-5 : tie.Need-returns-5
 returns-5 c =
     let k = c .before .before .before in
     let a = first k .args in
-    λ closed q. place-unbegun (a .bytes) closed (a .fed) (a .k) (a .place) (kind k) _ (sym (k .is-begun .ensures) ∙ c .before .before .if2 .left) (rw (ne-eqb _ 0 (λ e. c .if4 .left (c .before .size-of2 .ensures ∙ e))) (ne-eqb _ _ (c .if4 .left)))
+    place-unbegun (a .bytes) (a .body) (a .closed) (a .fed) (a .k) (a .place) (kind k) _ (sym (k .is-begun .ensures) ∙ c .before .before .if2 .left) (rw (sym (c .before .is-resting .ensures) ∙ c .if4 .left) (c .if4 .left))
 
 pub is-in-order-spec : {M : Type 1} → statement M
 is-in-order-spec =
@@ -96,7 +93,7 @@ is-in-order-spec =
     is-sound-requires
     returns-2
     returns-3
-    size-of-requires-2
+    is-resting-requires
     is-fresh-requires
     returns-4
     returns-5)

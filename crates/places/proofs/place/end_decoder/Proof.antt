@@ -16,7 +16,7 @@ enum-told : tie.Need-enum-told
 enum-told c = search needs
 
 returns : tie.Need-returns
-returns c = let s = c .before .before .before in end-way-none (s .args .place) (c .before .before .fresh .result) (c .before .before .fresh .ensures) (c .enum-told .given .1)
+returns c = let s = c .before .before .before in end-way-none (s .args .body) (s .args .place) (c .before .before .fresh .result) (c .before .before .fresh .ensures) (c .enum-told .given .0 .0) (c .enum-told .given .0 .1 .0) (c .enum-told .given .1)
 
 close-decoder-requires : tie.Need-close-decoder-requires
 close-decoder-requires c κs = search needs
@@ -29,7 +29,7 @@ returns-2 c =
     let s = c .before .before .before .before .before .before in
     let z = c .before .before .before .score .given .0 .0 in
     let fresh = c .before .before .before .before .before .fresh in
-    end-way-live (s .args .place) (fresh .result) (fresh .ensures) z (c .before .before .before .score .given .1) (c .before .close-decoder .result) (c .settled .result) (c .before .close-decoder .ensures) (rw (thru w64 z (search needs)) at (c .settled .ensures))
+    end-way-live (s .args .body) (s .args .place) (fresh .result) (fresh .ensures) z (c .before .before .before .score .given .1) (c .before .close-decoder .result) (c .settled .result) (c .before .close-decoder .ensures) (rw (thru w64 z (search needs)) at (c .settled .ensures))
 
 pub end-decoder-spec : {M : Type 1} → statement M
 end-decoder-spec = tie.close (tie.spec fresh-requires enum-known-score enum-told returns close-decoder-requires settled-requires returns-2)

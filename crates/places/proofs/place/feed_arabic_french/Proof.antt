@@ -25,7 +25,7 @@ enum-told c = search needs
 returns : tie.Need-returns
 returns c =
     let s = c .before .before .before .before .before .before in
-    way-none 7 (lent s) (s .args .part .now) (s .args .place) (ArabicFrench (c .before .before .fresh .result)) (ap ArabicFrench (c .before .before .fresh .ensures)) (c .enum-told .given .1)
+    way-none 7 (lent s) (s .args .body) (s .args .part .now) (s .args .place) (ArabicFrench (c .before .before .fresh .result)) (ap ArabicFrench (c .before .before .fresh .ensures)) (c .enum-told .given .0 .0) (c .enum-told .given .0 .1 .0) (c .enum-told .given .1)
 
 run-arabic-french-requires : tie.Need-run-arabic-french-requires
 run-arabic-french-requires c κs = search needs
@@ -38,7 +38,7 @@ returns-2 c =
     let s = c .before .before .before .before .before .before .before .before .before in
     let z = c .before .before .before .score .given .0 .0 in
     let fresh = c .before .before .before .before .before .fresh in
-    way-live 7 (lent s) (s .args .part .now) (s .args .place) (ArabicFrench (fresh .result)) (ap ArabicFrench (fresh .ensures)) z (c .before .before .before .score .given .1) (c .before .run-arabic-french .result) (c .settled .result) (c .before .run-arabic-french .ensures .0) (c .before .run-arabic-french .ensures .1 .0) (c .before .run-arabic-french .ensures .1 .1) (rw (thru w64 z (search needs)) at (c .settled .ensures))
+    way-live 7 (lent s) (s .args .body) (s .args .part .now) (s .args .place) (ArabicFrench (fresh .result)) (ap ArabicFrench (fresh .ensures)) z (c .before .before .before .score .given .1) (c .before .run-arabic-french .result) (c .settled .result) (c .before .run-arabic-french .ensures .0) (c .before .run-arabic-french .ensures .1 .0) (c .before .run-arabic-french .ensures .1 .1) (rw (thru w64 z (search needs)) at (c .settled .ensures))
 
 pub feed-arabic-french-spec : {M : Type 1} → statement M
 feed-arabic-french-spec = tie.close (tie.spec fresh-requires enum-known-score enum-told returns run-arabic-french-requires settled-requires returns-2)

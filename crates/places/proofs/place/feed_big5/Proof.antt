@@ -25,7 +25,7 @@ enum-told c = search needs
 returns : tie.Need-returns
 returns c =
     let s = c .before .before .before .before .before in
-    way-none 3 (lent s) (s .args .part .now) (s .args .place) (Big5 (c .before .before .fresh .result)) (ap Big5 (c .before .before .fresh .ensures)) (c .enum-told .given .1)
+    way-none 3 (lent s) (s .args .body) (s .args .part .now) (s .args .place) (Big5 (c .before .before .fresh .result)) (ap Big5 (c .before .before .fresh .ensures)) (c .enum-told .given .0 .0) (c .enum-told .given .0 .1 .0) (c .enum-told .given .1)
 
 run-big5-requires : tie.Need-run-big5-requires
 run-big5-requires c κs = search needs
@@ -38,7 +38,7 @@ returns-2 c =
     let s = c .before .before .before .before .before .before .before .before in
     let z = c .before .before .before .score .given .0 .0 in
     let fresh = c .before .before .before .before .before .fresh in
-    way-live 3 (lent s) (s .args .part .now) (s .args .place) (Big5 (fresh .result)) (ap Big5 (fresh .ensures)) z (c .before .before .before .score .given .1) (c .before .run-big5 .result) (c .settled .result) (c .before .run-big5 .ensures .0) (c .before .run-big5 .ensures .1 .0) (c .before .run-big5 .ensures .1 .1) (rw (thru w64 z (search needs)) at (c .settled .ensures))
+    way-live 3 (lent s) (s .args .body) (s .args .part .now) (s .args .place) (Big5 (fresh .result)) (ap Big5 (fresh .ensures)) z (c .before .before .before .score .given .1) (c .before .run-big5 .result) (c .settled .result) (c .before .run-big5 .ensures .0) (c .before .run-big5 .ensures .1 .0) (c .before .run-big5 .ensures .1 .1) (rw (thru w64 z (search needs)) at (c .settled .ensures))
 
 pub feed-big5-spec : {M : Type 1} → statement M
 feed-big5-spec = tie.close (tie.spec fresh-requires enum-known-score enum-told returns run-big5-requires settled-requires returns-2)

@@ -14,6 +14,9 @@ lent s = tables (s .args .classes4 .now) (s .args .marks4 .now) (s .args .pairs4
 long : (s : tie.Start) → length (s .args .t1) ≡ 8
 long s = search needs
 
+wrapping-add-u64-requires : tie.Need-wrapping-add-u64-requires
+wrapping-add-u64-requires c κs = search needs
+
 array-copy-out-end-decoder : tie.Need-array-copy-out-end-decoder
 array-copy-out-end-decoder c = search needs
 
@@ -76,8 +79,33 @@ feed-arabic-french-requires c κs = search needs
 
 returns : tie.Need-returns
 returns c =
-    let s = c .before .before .before .before .before .before .before .before .before .before .before .before .before .before .before .before .before .before .before .before .before .before .before .before .before .before .before .before .before .before .before in
-    end-eight (lent s) (s .args .t1) _ (long s) _ ((c .before .before .before .before .before .before .before .before .before .before .before .before .before .before .before .before .before .before .end-decoder .ensures, λ h. absurd (omega (arith, h))), ((c .before .before .before .before .before .before .before .before .before .before .before .before .before .before .before .before .end-decoder2 .ensures, λ h. absurd (omega (arith, h))), ((c .before .before .before .before .before .before .before .before .before .before .before .before .before .before .end-decoder3 .ensures, λ h. absurd (omega (arith, h))), ((c .before .before .before .before .before .before .before .before .before .before .before .before .end-decoder4 .ensures, λ h. absurd (omega (arith, h))), ((c .before .before .before .before .before .before .before .before .before .feed-caseless .ensures .0, λ h. c .before .before .before .before .before .before .before .before .before .feed-caseless .ensures .1), ((c .before .before .before .before .before .before .feed-logical .ensures .0, λ h. c .before .before .before .before .before .before .feed-logical .ensures .1), ((c .before .before .before .feed-visual .ensures .0, λ h. c .before .before .before .feed-visual .ensures .1), ((c .feed-arabic-french .ensures .0, λ h. c .feed-arabic-french .ensures .1), tt))))))))
+    let s = c .before .before .before .before .before .before .before .before .before .before .before .before .before .before .before .before .before .before .before .before .before .before .before .before .before .before .before .before .before .before .before .before in
+    let w = c .before .before .before .before .before .before .before .before .before .before .before .before .before .before .before .before .before .before .before .before .wrapping-add-u64 .ensures in
+    end-eight (lent s) (s .args .body) (s .args .t1) _ (long s) _ ((c .before .before .before .before .before .before .before .before .before .before .before .before .before .before .before .before .before .before .end-decoder .ensures, λ h. absurd (omega (arith, h))), ((c .before .before .before .before .before .before .before .before .before .before .before .before .before .before .before .before .end-decoder2 .ensures, λ h. absurd (omega (arith, h))), ((c .before .before .before .before .before .before .before .before .before .before .before .before .before .before .end-decoder3 .ensures, λ h. absurd (omega (arith, h))), ((c .before .before .before .before .before .before .before .before .before .before .before .before .end-decoder4 .ensures, λ h. absurd (omega (arith, h))), ((rw w at (c .before .before .before .before .before .before .before .before .before .feed-caseless .ensures .0), λ h. c .before .before .before .before .before .before .before .before .before .feed-caseless .ensures .1), ((rw w at (c .before .before .before .before .before .before .feed-logical .ensures .0), λ h. c .before .before .before .before .before .before .feed-logical .ensures .1), ((rw w at (c .before .before .before .feed-visual .ensures .0), λ h. c .before .before .before .feed-visual .ensures .1), ((rw w at (c .feed-arabic-french .ensures .0), λ h. c .feed-arabic-french .ensures .1), tt))))))))
 
 pub end-each-spec : {M : Type 1} → statement M
-end-each-spec = tie.close (tie.spec array-copy-out-end-decoder end-decoder-requires array-copy-out-end-decoder-2 end-decoder-requires-2 array-copy-out-end-decoder-3 end-decoder-requires-3 array-copy-out-end-decoder-4 end-decoder-requires-4 array-copy-out-feed-caseless slice-aggregate-feed-caseless feed-caseless-requires array-copy-out-feed-logical slice-aggregate-feed-logical feed-logical-requires array-copy-out-feed-visual slice-aggregate-feed-visual feed-visual-requires array-copy-out-feed-arabic-french slice-aggregate-feed-arabic-french feed-arabic-french-requires returns)
+end-each-spec =
+    tie.close
+    (tie.spec
+    wrapping-add-u64-requires
+    array-copy-out-end-decoder
+    end-decoder-requires
+    array-copy-out-end-decoder-2
+    end-decoder-requires-2
+    array-copy-out-end-decoder-3
+    end-decoder-requires-3
+    array-copy-out-end-decoder-4
+    end-decoder-requires-4
+    array-copy-out-feed-caseless
+    slice-aggregate-feed-caseless
+    feed-caseless-requires
+    array-copy-out-feed-logical
+    slice-aggregate-feed-logical
+    feed-logical-requires
+    array-copy-out-feed-visual
+    slice-aggregate-feed-visual
+    feed-visual-requires
+    array-copy-out-feed-arabic-french
+    slice-aggregate-feed-arabic-french
+    feed-arabic-french-requires
+    returns)

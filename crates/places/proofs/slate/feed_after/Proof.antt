@@ -19,14 +19,14 @@ returns : tie.Need-returns
 returns c =
     let s = c .before .before .before .before .before .before .before .before .before .before .before .before .before .before .before .before in
     let f = c .before .before .feed-both in
-    let r = slate-last (lent s) (s .args .last) (s .args .part .now) (fedEach (lent s) (s .args .before .now) (s .args .places)) (c .before .if1 .taken) (c .end-each .result) (rw (f .ensures .0) at (c .end-each .ensures .0)) (f .ensures .1 .1) (rw (f .ensures .0) at (c .end-each .ensures .1)) in
+    let r = slate-last (lent s) (s .args .last) (s .args .body) (s .args .part .now) (fedEach (lent s) 0 (s .args .before .now) (s .args .places)) (c .before .if1 .taken) (c .end-each .result) (rw (f .ensures .0) at (c .end-each .ensures .0)) (f .ensures .1 .1) (rw (f .ensures .0) at (c .end-each .ensures .1)) in
     (r .0, (f .ensures .1 .0, r .1))
 
 returns-2 : tie.Need-returns-2
 returns-2 c =
     let s = c .before .before .before .before .before .before .before .before .before .before .before .before .before .before .before in
     let f = c .before .feed-both in
-    let r = slate-open (lent s) (s .args .last) (s .args .part .now) (fedEach (lent s) (s .args .before .now) (s .args .places)) (c .if1 .left) (f .result) (f .ensures .0) (f .ensures .1 .1) in
+    let r = slate-open (lent s) (s .args .last) (s .args .body) (s .args .part .now) (fedEach (lent s) 0 (s .args .before .now) (s .args .places)) (c .if1 .left) (f .result) (f .ensures .0) (f .ensures .1 .1) in
     (r .0, (f .ensures .1 .0, r .1))
 
 pub feed-after-spec : {M : Type 1} → statement M

@@ -89,7 +89,7 @@ feed-arabic-french-requires-2 c κs = search needs
 returns : tie.Need-returns
 returns c =
     let s = c .before .before .before .before .before .before .before .before .before .before .before .before .before .before .before .before .before .before .before .before .before .before .before .before .before .before .before .before .before .before .before .before .before .before .before .before .before in
-    fed-twice (lent s) (s .args .t1) _ (long s) (s .args .before .now) (s .args .part .now) (c .before .before .before .before .before .before .before .before .before .before .before .before .before .before .before .before .before .before .before .before .before .before .feed-utf8 .result ∷ c .before .before .before .before .before .before .before .before .before .before .before .before .before .before .before .before .before .before .before .feed-iso2022jp .result ∷ c .before .before .before .before .before .before .before .before .before .before .before .before .before .before .before .before .feed-euckr .result ∷ c .before .before .before .before .before .before .before .before .before .before .before .before .before .feed-big5 .result ∷ c .before .before .before .before .before .before .before .before .before .before .feed-caseless .result ∷ c .before .before .before .before .before .before .before .feed-logical .result ∷ c .before .before .before .before .feed-visual .result ∷ c .before .feed-arabic-french .result ∷ []) _ (c .before .before .before .before .before .before .before .before .before .before .before .before .before .before .before .before .before .before .before .before .before .before .feed-utf8 .ensures, (c .before .before .before .before .before .before .before .before .before .before .before .before .before .before .before .before .before .before .before .feed-iso2022jp .ensures, (c .before .before .before .before .before .before .before .before .before .before .before .before .before .before .before .before .feed-euckr .ensures, (c .before .before .before .before .before .before .before .before .before .before .before .before .before .feed-big5 .ensures, (c .before .before .before .before .before .before .before .before .before .before .feed-caseless .ensures, (c .before .before .before .before .before .before .before .feed-logical .ensures, (c .before .before .before .before .feed-visual .ensures, (c .before .feed-arabic-french .ensures, tt)))))))) (c .before .before .before .before .before .before .before .before .before .before .before .before .before .before .before .before .before .before .before .before .before .feed-utf82 .ensures, (c .before .before .before .before .before .before .before .before .before .before .before .before .before .before .before .before .before .before .feed-iso2022jp2 .ensures, (c .before .before .before .before .before .before .before .before .before .before .before .before .before .before .before .feed-euckr2 .ensures, (c .before .before .before .before .before .before .before .before .before .before .before .before .feed-big52 .ensures, (c .before .before .before .before .before .before .before .before .before .feed-caseless2 .ensures, (c .before .before .before .before .before .before .feed-logical2 .ensures, (c .before .before .before .feed-visual2 .ensures, (c .feed-arabic-french2 .ensures, tt))))))))
+    fed-twice (lent s) (s .args .body) (s .args .t1) _ (long s) (s .args .before .now) (s .args .part .now) (c .before .before .before .before .before .before .before .before .before .before .before .before .before .before .before .before .before .before .before .before .before .before .feed-utf8 .result ∷ c .before .before .before .before .before .before .before .before .before .before .before .before .before .before .before .before .before .before .before .feed-iso2022jp .result ∷ c .before .before .before .before .before .before .before .before .before .before .before .before .before .before .before .before .feed-euckr .result ∷ c .before .before .before .before .before .before .before .before .before .before .before .before .before .feed-big5 .result ∷ c .before .before .before .before .before .before .before .before .before .before .feed-caseless .result ∷ c .before .before .before .before .before .before .before .feed-logical .result ∷ c .before .before .before .before .feed-visual .result ∷ c .before .feed-arabic-french .result ∷ []) _ (c .before .before .before .before .before .before .before .before .before .before .before .before .before .before .before .before .before .before .before .before .before .before .feed-utf8 .ensures, (c .before .before .before .before .before .before .before .before .before .before .before .before .before .before .before .before .before .before .before .feed-iso2022jp .ensures, (c .before .before .before .before .before .before .before .before .before .before .before .before .before .before .before .before .feed-euckr .ensures, (c .before .before .before .before .before .before .before .before .before .before .before .before .before .feed-big5 .ensures, (c .before .before .before .before .before .before .before .before .before .before .feed-caseless .ensures, (c .before .before .before .before .before .before .before .feed-logical .ensures, (c .before .before .before .before .feed-visual .ensures, (c .before .feed-arabic-french .ensures, tt)))))))) (c .before .before .before .before .before .before .before .before .before .before .before .before .before .before .before .before .before .before .before .before .before .feed-utf82 .ensures, (c .before .before .before .before .before .before .before .before .before .before .before .before .before .before .before .before .before .before .feed-iso2022jp2 .ensures, (c .before .before .before .before .before .before .before .before .before .before .before .before .before .before .before .feed-euckr2 .ensures, (c .before .before .before .before .before .before .before .before .before .before .before .before .feed-big52 .ensures, (c .before .before .before .before .before .before .before .before .before .feed-caseless2 .ensures, (c .before .before .before .before .before .before .feed-logical2 .ensures, (c .before .before .before .feed-visual2 .ensures, (c .feed-arabic-french2 .ensures, tt))))))))
 
 pub feed-both-spec : {M : Type 1} → statement M
 feed-both-spec = tie.close (tie.spec array-copy-out-feed-utf8 feed-utf8-requires feed-utf8-requires-2 array-copy-out-feed-iso2022jp feed-iso2022jp-requires feed-iso2022jp-requires-2 array-copy-out-feed-euckr feed-euckr-requires feed-euckr-requires-2 array-copy-out-feed-big5 feed-big5-requires feed-big5-requires-2 array-copy-out-feed-caseless feed-caseless-requires feed-caseless-requires-2 array-copy-out-feed-logical feed-logical-requires feed-logical-requires-2 array-copy-out-feed-visual feed-visual-requires feed-visual-requires-2 array-copy-out-feed-arabic-french feed-arabic-french-requires feed-arabic-french-requires-2 returns)

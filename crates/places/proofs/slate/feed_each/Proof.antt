@@ -64,7 +64,7 @@ feed-arabic-french-requires c κs = search needs
 returns : tie.Need-returns
 returns c =
     let s = c .before .before .before .before .before .before .before .before .before .before .before .before .before .before .before .before .before .before .before .before .before .before .before .before .before .before .before .before in
-    fed-eight (lent s) (s .args .t1) _ (long s) (s .args .part .now) _ (c .before .before .before .before .before .before .before .before .before .before .before .before .before .before .feed-utf8 .ensures, (c .before .before .before .before .before .before .before .before .before .before .before .before .feed-iso2022jp .ensures, (c .before .before .before .before .before .before .before .before .before .before .feed-euckr .ensures, (c .before .before .before .before .before .before .before .before .feed-big5 .ensures, (c .before .before .before .before .before .before .feed-caseless .ensures, (c .before .before .before .before .feed-logical .ensures, (c .before .before .feed-visual .ensures, (c .feed-arabic-french .ensures, tt))))))))
+    fed-eight (lent s) (s .args .body) (s .args .t1) _ (long s) (s .args .part .now) _ (c .before .before .before .before .before .before .before .before .before .before .before .before .before .before .feed-utf8 .ensures, (c .before .before .before .before .before .before .before .before .before .before .before .before .feed-iso2022jp .ensures, (c .before .before .before .before .before .before .before .before .before .before .feed-euckr .ensures, (c .before .before .before .before .before .before .before .before .feed-big5 .ensures, (c .before .before .before .before .before .before .feed-caseless .ensures, (c .before .before .before .before .feed-logical .ensures, (c .before .before .feed-visual .ensures, (c .feed-arabic-french .ensures, tt))))))))
 
 pub feed-each-spec : {M : Type 1} → statement M
 feed-each-spec = tie.close (tie.spec array-copy-out-feed-utf8 feed-utf8-requires array-copy-out-feed-iso2022jp feed-iso2022jp-requires array-copy-out-feed-euckr feed-euckr-requires array-copy-out-feed-big5 feed-big5-requires array-copy-out-feed-caseless feed-caseless-requires array-copy-out-feed-logical feed-logical-requires array-copy-out-feed-visual feed-visual-requires array-copy-out-feed-arabic-french feed-arabic-french-requires returns)

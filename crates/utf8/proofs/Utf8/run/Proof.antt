@@ -26,11 +26,11 @@ returns c = c .run-fit .ensures ∙ sym (ran-ready _ _ (ready (c .before)))
 
 returns-2 : tie.Need-returns-2
 unfolding ranOf readyB
-returns-2 c = sym (if-unfit _ _ _ _ _ (rw (lt-leb _ _ (c .if2 .left), and-false)))
+returns-2 c = sym (if-unfit _ _ _ _ _ _ (rw (lt-leb _ _ (c .if2 .left), and-false)))
 
 returns-3 : tie.Need-returns-3
 unfolding ranOf readyB
-returns-3 c = sym (if-unfit _ _ _ _ _ (rw (sym (c .before .is-sound .ensures) ∙ c .if1 .left)))
+returns-3 c = sym (if-unfit _ _ _ _ _ _ (rw (sym (c .before .is-sound .ensures) ∙ c .if1 .left)))
 
 pub run-spec : {M : Type 1} → statement M
 run-spec = tie.close (tie.spec is-sound-requires run-fit-requires returns returns-2 returns-3)

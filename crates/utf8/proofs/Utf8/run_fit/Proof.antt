@@ -5,7 +5,9 @@ use native.Mathlib.Omega.{arith}
 use borrow.Author.Needs.{needs}
 use lib.IntN.{pos}
 use lib.ListN.{length}
-use Rattle.laws.specs.Going.{Going, going-start, going-still, going-none, going-done}
+use Rattle.laws.specs.Going.{Going, going-start, going-still, going-none, going-at, going-done}
+use Rattle.laws.specs.declared.Reason.the-variants.{BadByte}
+use Rattle.utf8.specs.declared.Ran.the-variants.{Dropped}
 use Rattle.utf8.specs.Utf8.{Sound, outOf, ranAs, stepOf}
 use Rattle.utf8.specs.Utf8Laws.{step-live}
 use Rattle.utf8.proofs.Utf8.run_fit.Statement.{statement}
@@ -35,7 +37,9 @@ enum-told c = search needs
 returns : tie.Need-returns Inv-loop μ-loop
 returns c =
     let t = c .before .before .before .before in
-    ap ranAs (going-none (t .before .loop .inv) (t .loop-test .taken) (sym (c .before .before .step .ensures) ∙ ap outOf (c .enum-told .given .1)))
+    let going = t .before .loop .inv in
+    let e = sym (c .before .before .step .ensures) ∙ ap outOf (c .enum-told .given .1) in
+    ap (Dropped BadByte) (going-at going (t .loop-test .taken) e) ∙ ap (ranAs _) (going-none going (t .loop-test .taken) e)
 
 add-i : tie.Need-add-i Inv-loop μ-loop
 add-i c = omega arith
@@ -51,7 +55,7 @@ loop-again c =
     going-still going (t .loop-test .taken) e (step-live _ _ _ _ (going .sound) e)
 
 returns-2 : tie.Need-returns-2 Inv-loop μ-loop
-returns-2 c = ap ranAs (going-done (c .before .loop .inv) (omega arith))
+returns-2 c = ap (ranAs _) (going-done (c .before .loop .inv) (omega arith))
 
 pub run-fit-spec : {M : Type 1} → statement M
 run-fit-spec =

@@ -1,0 +1,4 @@
+pub mod Account
+pub mod AccountLaws
+pub mod RoomLaws
+pub mod ToldLaws

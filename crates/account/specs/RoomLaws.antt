@@ -1,0 +1,44 @@
+-- A buffer of 1,024 bytes has room for what any state tells of any file.
+use mathlib.Core.Path.{_≡_, refl}
+use mathlib.Core.List.{List, [], _∷_, _++_}
+use Prim.Native.Nat.{ℕ, suc, _*_}
+use native.Mathlib.Omega.{arith}
+use lib.ListN.{length, drop}
+use Rattle.names.specs.NamesLaws.{place-name}
+use Rattle.scribe.specs.FitsLaws.{Fits, text, line-end, joined, wide, decimal, signed, whole}
+use Rattle.scribe.specs.Page.{page, onto}
+use Rattle.spot.specs.FitsLaws.{dropped-short}
+use Rattle.places.specs.declared.place.Place.{Place}
+use Rattle.places.specs.declared.place.Score as score
+use Rattle.state.specs.declared.State.{State}
+use Rattle.account.specs.Account.{headOf, toldText, placeLine, placeLines, countLines, accountOf}
+
+module _ (file : List ℕ) (head : ℕ) where
+  told : (s : score.Score) → Fits 99 (toldText file head s)
+  unfolding toldText
+  told (score.the-variants.None d at) = dropped-short file head d at
+  told (score.the-variants.Live n) = wide (joined (text "score ") (signed n)) refl
+
+  place : (k : ℕ) (s : score.Score) → Fits 115 (placeLine file head k s)
+  unfolding placeLine
+  place k s = joined (joined (joined (place-name k) (text ": ")) (told s)) line-end
+
+  places : (k : ℕ) (ps : List Place) → Fits (115 * length ps) (placeLines file head k ps)
+  unfolding placeLines
+  places k [] = record { short = omega arith }
+  places k (p ∷ ps) = record { short = omega (arith, joined (place k (p .score)) (places (suc k) ps) .short) }
+
+counts : (bytes head : ℕ) → Fits 59 (countLines bytes head)
+unfolding countLines
+counts bytes head =
+    joined (joined (joined (joined (joined (joined (joined (text "why 1") line-end) (text "bytes ")) (decimal bytes)) line-end) (text "head ")) (decimal head)) line-end
+
+pub account-short : (file : List ℕ) (s : State) → length (s .places) ≡ 8 → Fits 1024 (accountOf file s)
+unfolding accountOf
+account-short file s e =
+    let f = joined (counts (s .front .bytes) (headOf (s .front))) (places file (headOf (s .front)) 0 (s .places)) in
+    record { short = omega (arith, e, f .short) }
+
+-- What is written into such a buffer is all of it.
+pub account-whole : (file : List ℕ) (s : State) (xs : List ℕ) → length (s .places) ≡ 8 → length xs ≡ 1024 → onto (page xs 0) (accountOf file s) ≡ page (accountOf file s ++ drop (length (accountOf file s)) xs) (length (accountOf file s))
+account-whole file s xs e h = whole 1024 xs (accountOf file s) (account-short file s e) (omega arith)

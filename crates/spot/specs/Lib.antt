@@ -1,0 +1,4 @@
+pub mod FitsLaws
+pub mod PlaceLaws
+pub mod Spot
+pub mod SpotLaws
