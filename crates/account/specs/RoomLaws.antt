@@ -1,9 +1,11 @@
--- A buffer of 1,024 bytes has room for what any state tells of any file.
+-- A buffer of 1,024 bytes has room for what any state tells of any file, and for every answer.
 use mathlib.Core.Path.{_≡_, refl}
 use mathlib.Core.List.{List, [], _∷_, _++_}
 use Prim.Native.Nat.{ℕ, suc, _*_}
 use native.Mathlib.Omega.{arith}
+use lib.Dec.{ltb}
 use lib.ListN.{length, drop}
+use Rattle.laws.specs.Tests.{picked}
 use Rattle.names.specs.NamesLaws.{place-name}
 use Rattle.scribe.specs.FitsLaws.{Fits, text, line-end, joined, wide, decimal, signed, whole}
 use Rattle.scribe.specs.Page.{page, onto}
@@ -11,7 +13,9 @@ use Rattle.spot.specs.FitsLaws.{dropped-short}
 use Rattle.places.specs.declared.place.Place.{Place}
 use Rattle.places.specs.declared.place.Score as score
 use Rattle.state.specs.declared.State.{State}
-use Rattle.account.specs.Account.{headOf, toldText, placeLine, placeLines, countLines, accountOf}
+use Rattle.label.specs.Label.{most, stateOf}
+use Rattle.label.specs.RoomLaws.{eight}
+use Rattle.account.specs.Account.{headOf, toldText, placeLine, placeLines, countLines, accountOf, answerOf}
 
 module _ (file : List ℕ) (head : ℕ) where
   told : (s : score.Score) → Fits 99 (toldText file head s)
@@ -39,6 +43,10 @@ account-short file s e =
     let f = joined (counts (s .front .bytes) (headOf (s .front))) (places file (headOf (s .front)) 0 (s .places)) in
     record { short = omega (arith, e, f .short) }
 
--- What is written into such a buffer is all of it.
-pub account-whole : (file : List ℕ) (s : State) (xs : List ℕ) → length (s .places) ≡ 8 → length xs ≡ 1024 → onto (page xs 0) (accountOf file s) ≡ page (accountOf file s ++ drop (length (accountOf file s)) xs) (length (accountOf file s))
-account-whole file s xs e h = whole 1024 xs (accountOf file s) (account-short file s e) (omega arith)
+pub answer-short : (file : List ℕ) → Fits 1024 (answerOf file)
+unfolding answerOf
+answer-short file = picked (Fits 1024) (ltb most (length file)) (wide (joined (text "too long") line-end) refl) (account-short file (stateOf file) (eight file))
+
+-- What is written into such a buffer is the whole answer.
+pub answer-whole : (file xs : List ℕ) → length xs ≡ 1024 → onto (page xs 0) (answerOf file) ≡ page (answerOf file ++ drop (length (answerOf file)) xs) (length (answerOf file))
+answer-whole file xs h = whole 1024 xs (answerOf file) (answer-short file) (omega arith)

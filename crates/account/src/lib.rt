@@ -1,10 +1,10 @@
 // What is told of a file: each place with its score, or why and where in the file it dropped out.
-mod feeding;
 
 ghost use mathlib.Core.Path.{_≡_};
 ghost use Prim.Native.Nat.{_-_};
 ghost use Rattle.account.specs.Account.{headOf, toldText, placeLine, placeLines, countLines, accountOf, answerOf};
 ghost use Rattle.scribe.specs.Page.{page, onto};
+use label;
 use label::MOST;
 use libc::STDOUT_FILENO;
 use names;
@@ -100,7 +100,7 @@ pub fn answer(file: &[u8], out: &mut [u8], at: usize) -> usize
     if MOST < file.len() {
         return page::word(out, at, b"too long\n");
     }
-    write(out, at, file, feeding::fed(file))
+    write(out, at, file, label::fed(file))
 }
 
 // The same on standard output.

@@ -71,7 +71,7 @@ module _ (t : Tables) where
   fed-length s bs last Accept = places-length last (frontOf (s .front) bs last .body) (s .places) (reachesOf (s .front) bs)
   fed-length s bs last (Refuse r) = refl
 
-eight : (bs : List ℕ) → length (stateOf bs .places) ≡ 8
+pub eight : (bs : List ℕ) → length (stateOf bs .places) ≡ 8
 unfolding stateOf startPlaces
 eight bs = fed-length demonstration (startOf 255) bs true (refusalOf demonstration (startOf 255) bs)
 

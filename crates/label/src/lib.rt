@@ -68,7 +68,8 @@ fn over(
     after
 }
 
-fn fed(label: &[u8]) -> State
+// What it leaves, over the demonstration data.
+pub fn fed(label: &[u8]) -> State
     ensures { λ r. ⌜ r ≡ stateOf (now (label .entry)) ⌝ }
 {
     let classes = demo::classes();
