@@ -47,8 +47,8 @@ pub(crate) fn less(a: u64, b: u64) -> u64
     0
 }
 
-// The score becomes the sum, or none with the fresh machine. The byte at which a part of so many bytes drops out is counted back
-// from its end: the offset is from 0, and of those behind the byte none has come.
+// The score becomes the sum, or none with the fresh machine. The byte at which a part of so many bytes drops out, whose
+// offset is from 0, is counted back from the part's end: the body less the bytes that stand behind it.
 fn settled(fresh: Machine, before: i64, ran: Ran, body: u64, bytes: usize) -> Place
     ensures { λ r. ⌜ r ≡ settledOf fresh before body bytes ran ⌝ }
 {
