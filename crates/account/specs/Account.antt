@@ -6,7 +6,7 @@ use lib.Dec.{ltb}
 use lib.ListN.{length}
 use Rattle.names.specs.Names.{placeName}
 use Rattle.scribe.specs.Text.{ascii, newline, decimalOf, signedOf}
-use Rattle.spot.specs.Spot.{droppedText}
+use Rattle.spot.specs.Spot.{spotText}
 use Rattle.places.specs.declared.place.Place.{Place}
 use Rattle.places.specs.declared.place.Score as score
 use Rattle.state.specs.declared.State.{State}
@@ -14,11 +14,11 @@ use Rattle.state.specs.declared.front.Front.{Front}
 use Rattle.label.specs.Label.{most, stateOf}
 
 -- how many bytes the head has
-unfoldable pub headOf : Front → ℕ
-headOf f = f .bytes - f .body
+unfoldable pub headLength : Front → ℕ
+headLength f = f .bytes - f .body
 
 unfoldable pub toldText : List ℕ → ℕ → score.Score → List ℕ
-toldText file head (score.the-variants.None d at) = droppedText file head d at
+toldText file head (score.the-variants.None d at) = spotText file head d at
 toldText file head (score.the-variants.Live n) = ascii "score " ++ signedOf n
 
 -- the place with number k
@@ -34,7 +34,7 @@ unfoldable pub countLines : ℕ → ℕ → List ℕ
 countLines bytes head = ascii "why 1" ++ newline ++ ascii "bytes " ++ decimalOf bytes ++ newline ++ ascii "head " ++ decimalOf head ++ newline
 
 unfoldable pub accountOf : List ℕ → State → List ℕ
-accountOf file s = countLines (s .front .bytes) (headOf (s .front)) ++ placeLines file (headOf (s .front)) 0 (s .places)
+accountOf file s = countLines (s .front .bytes) (headLength (s .front)) ++ placeLines file (headLength (s .front)) 0 (s .places)
 
 -- of a file that is fed as a label is
 unfoldable pub answerOf : List ℕ → List ℕ

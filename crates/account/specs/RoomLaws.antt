@@ -15,7 +15,7 @@ use Rattle.places.specs.declared.place.Score as score
 use Rattle.state.specs.declared.State.{State}
 use Rattle.label.specs.Label.{most, stateOf}
 use Rattle.label.specs.RoomLaws.{eight}
-use Rattle.account.specs.Account.{headOf, toldText, placeLine, placeLines, countLines, accountOf, answerOf}
+use Rattle.account.specs.Account.{headLength, toldText, placeLine, placeLines, countLines, accountOf, answerOf}
 
 module _ (file : List ℕ) (head : ℕ) where
   told : (s : score.Score) → Fits 99 (toldText file head s)
@@ -40,7 +40,7 @@ counts bytes head =
 pub account-short : (file : List ℕ) (s : State) → length (s .places) ≡ 8 → Fits 1024 (accountOf file s)
 unfolding accountOf
 account-short file s e =
-    let f = joined (counts (s .front .bytes) (headOf (s .front))) (places file (headOf (s .front)) 0 (s .places)) in
+    let f = joined (counts (s .front .bytes) (headLength (s .front))) (places file (headLength (s .front)) 0 (s .places)) in
     record { short = omega (arith, e, f .short) }
 
 pub answer-short : (file : List ℕ) → Fits 1024 (answerOf file)

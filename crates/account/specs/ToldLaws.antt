@@ -13,13 +13,13 @@ use Rattle.laws.specs.Tests.{both, either}
 use Rattle.laws.specs.declared.Reason.{Reason}
 use Rattle.laws.specs.declared.Reason.the-variants.{Class255, BadByte, BadSecondByte, BrokenEscape, CutAtClose, NotInSlate}
 use Rattle.spot.specs.PlaceLaws.{byte-told, byte-in-file}
-use Rattle.spot.specs.Spot.{byteText, placeText, whereText}
+use Rattle.spot.specs.Spot.{byteText, atPlaceText, whereText}
 use Rattle.places.specs.Order.{spacedOf, droppedB}
 use Rattle.places.specs.Place.{byteAt}
 use Rattle.state.specs.Order.{InOrder}
 use Rattle.state.specs.State.{triggered}
 use Rattle.state.specs.declared.State.{State}
-use Rattle.account.specs.Account.{headOf}
+use Rattle.account.specs.Account.{headLength}
 
 -- the reasons that a decoder gives at a byte
 abbrev pub AtByte : Reason → Type 0
@@ -35,14 +35,14 @@ module _ (file : List ℕ) (s : State) (order : InOrder s) (whole : s .front .by
   body = s .front .body
 
   abbrev head : ℕ
-  head = headOf (s .front)
+  head = headLength (s .front)
 
   -- what a place without a score carries, as the state's order has it
   abbrev Dropped : ℕ → Reason → ℕ → Type 0
   Dropped k d at = droppedB body (s .front .closed) (triggered (s .front)) k d at ≡ true
 
   after-head : head ≡ length file - body
-  unfolding headOf
+  unfolding headLength
   after-head = rw whole
 
   within : body ≤ length file
@@ -62,7 +62,7 @@ module _ (file : List ℕ) (s : State) (order : InOrder s) (whole : s .front .by
   low k CutAtClose n b e = absurd b
   low k NotInSlate n b e = absurd b
 
-  at-place : (d : Reason) (at : ℕ) → AtByte d → whereText file head d at ≡ placeText file head at
+  at-place : (d : Reason) (at : ℕ) → AtByte d → whereText file head d at ≡ atPlaceText file head at
   unfolding whereText
   at-place Class255 at b = absurd b
   at-place BadByte at b = refl

@@ -2,7 +2,7 @@
 
 ghost use mathlib.Core.Path.{_≡_};
 ghost use Prim.Native.Nat.{_-_};
-ghost use Rattle.account.specs.Account.{headOf, toldText, placeLine, placeLines, countLines, accountOf, answerOf};
+ghost use Rattle.account.specs.Account.{headLength, toldText, placeLine, placeLines, countLines, accountOf, answerOf};
 ghost use Rattle.scribe.specs.Page.{page, onto};
 use label;
 use label::MOST;
@@ -20,8 +20,8 @@ use state::front::Front;
 pub const ROOM: usize = 1_024;
 
 // How many bytes the head has.
-fn head_of(front: Front) -> u64
-    ensures { λ r. ⌜ r ≡ headOf front ⌝ }
+fn head_length(front: Front) -> u64
+    ensures { λ r. ⌜ r ≡ headLength front ⌝ }
 {
     if front.body <= front.bytes {
         return front.bytes - front.body;
@@ -89,7 +89,7 @@ pub fn write(out: &mut [u8], at: usize, file: &[u8], state: State) -> usize
 {
     let front = state.front;
     let slate = state.places;
-    let head = head_of(front);
+    let head = head_length(front);
     let a = count_lines(out, at, front.bytes, head);
     place_lines(out, a, file, head, slate)
 }

@@ -12,15 +12,15 @@ use Rattle.names.specs.Names.{reasonName}
 use Rattle.names.specs.NamesLaws.{reason-name}
 use Rattle.scribe.specs.FitsLaws.{Fits, text, joined, wide, hex, decimal}
 use Rattle.scribe.specs.Text.{hexOf}
-use Rattle.spot.specs.Spot.{side, between, hexesOf, beforeText, markedText, byteText, endText, placeText, whereText, spaced, droppedText}
+use Rattle.spot.specs.Spot.{side, sliceOf, spacedHexes, beforeText, markedText, byteText, endText, atPlaceText, whereText, unhyphened, spotText}
 
-three : (xs : List ℕ) → length (hexesOf xs) ≡ 3 * length xs
-unfolding hexesOf hexOf
+three : (xs : List ℕ) → length (spacedHexes xs) ≡ 3 * length xs
+unfolding spacedHexes hexOf
 three [] = refl
 three (x ∷ xs) = omega (arith, three xs)
 
-four : (from to : ℕ) (file : List ℕ) → to - from ≤ side → Fits 12 (hexesOf (between from to file))
-four from to file h = record { short = omega (arith, three (between from to file), length-take (to - from) (drop from file)) }
+four : (from to : ℕ) (file : List ℕ) → to - from ≤ side → Fits 12 (spacedHexes (sliceOf from to file))
+four from to file h = record { short = omega (arith, three (sliceOf from to file), length-take (to - from) (drop from file)) }
 
 before : (file : List ℕ) (at : ℕ) → Fits 12 (beforeText file at)
 unfolding beforeText
@@ -38,8 +38,8 @@ end : (file : List ℕ) → Fits 65 (endText file)
 unfolding endText
 end file = wide (joined (joined (joined (text " at the end of the file, offset ") (decimal (length file))) (text ":")) (before file (length file))) refl
 
-place : (file : List ℕ) (head at : ℕ) → Fits 84 (placeText file head at)
-unfolding placeText
+place : (file : List ℕ) (head at : ℕ) → Fits 84 (atPlaceText file head at)
+unfolding atPlaceText
 place file head at =
     picked (Fits 84) (eqb at 0) (wide (text " in the head") refl) (picked (Fits 84) (ltb (at - 1) (length file - head)) (wide (byte file (head + (at - 1))) refl) (wide (joined (text ", the closing space") (end file)) refl))
 
@@ -52,13 +52,13 @@ location file head BrokenEscape at = place file head at
 location file head CutAtClose at = wide (joined (text ",") (end file)) refl
 location file head NotInSlate at = wide (text "") refl
 
-as-long : (xs : List ℕ) → length (spaced xs) ≡ length xs
-unfolding spaced
+as-long : (xs : List ℕ) → length (unhyphened xs) ≡ length xs
+unfolding unhyphened
 as-long [] = refl
 as-long (x ∷ xs) = omega (arith, as-long xs)
 
-pub dropped-short : (file : List ℕ) (head : ℕ) (d : Reason) (at : ℕ) → Fits 99 (droppedText file head d at)
-unfolding droppedText
+pub dropped-short : (file : List ℕ) (head : ℕ) (d : Reason) (at : ℕ) → Fits 99 (spotText file head d at)
+unfolding spotText
 dropped-short file head d at =
-    let words : Fits 15 (spaced (reasonName d)) = record { short = omega (arith, as-long (reasonName d), reason-name d .short) } in
+    let words : Fits 15 (unhyphened (reasonName d)) = record { short = omega (arith, as-long (reasonName d), reason-name d .short) } in
     joined words (location file head d at)

@@ -7,7 +7,7 @@ use native.Mathlib.Omega.{arith}
 use lib.ListN.{length}
 use borrow.Author.Tests.{ne-eqb, lt-ltb, le-ltb}
 use Rattle.scribe.specs.Text.{ascii}
-use Rattle.spot.specs.Spot.{byteText, endText, placeText}
+use Rattle.spot.specs.Spot.{byteText, endText, atPlaceText}
 
 module _ (file : List ℕ) (body n : ℕ) (within : body ≤ length file) where
   no-head : suc n ≡ 0 → ⊥
@@ -19,13 +19,13 @@ module _ (file : List ℕ) (body n : ℕ) (within : body ≤ length file) where
   rest : length file - (length file - body) ≡ body
   rest = omega arith
 
-  pub byte-told : n < body → placeText file (length file - body) (suc n) ≡ byteText file (length file - body + n)
-  unfolding placeText
+  pub byte-told : n < body → atPlaceText file (length file - body) (suc n) ≡ byteText file (length file - body + n)
+  unfolding atPlaceText
   byte-told h = rw (ne-eqb (suc n) 0 no-head, before, rest, lt-ltb n body h)
 
   pub byte-in-file : n < body → length file - body + n < length file
   byte-in-file h = omega arith
 
-  pub space-told : body ≤ n → placeText file (length file - body) (suc n) ≡ ascii ", the closing space" ++ endText file
-  unfolding placeText
+  pub space-told : body ≤ n → atPlaceText file (length file - body) (suc n) ≡ ascii ", the closing space" ++ endText file
+  unfolding atPlaceText
   space-told h = rw (ne-eqb (suc n) 0 no-head, before, rest, le-ltb n body h)

@@ -15,20 +15,20 @@ abbrev pub side : ℕ
 side = 4
 
 -- the bytes from an offset up to another, or to the end of the file
-abbrev pub between : ℕ → ℕ → List ℕ → List ℕ
-between from to file = take (to - from) (drop from file)
+abbrev pub sliceOf : ℕ → ℕ → List ℕ → List ℕ
+sliceOf from to file = take (to - from) (drop from file)
 
 -- in hexadecimal, a space before each
-unfoldable pub hexesOf : List ℕ → List ℕ
-hexesOf [] = []
-hexesOf (b ∷ bs) = ascii " " ++ hexOf b ++ hexesOf bs
+unfoldable pub spacedHexes : List ℕ → List ℕ
+spacedHexes [] = []
+spacedHexes (b ∷ bs) = ascii " " ++ hexOf b ++ spacedHexes bs
 
 unfoldable pub beforeText : List ℕ → ℕ → List ℕ
-beforeText file at = hexesOf (between (at - side) at file)
+beforeText file at = spacedHexes (sliceOf (at - side) at file)
 
 -- the byte at an offset, marked, and those after it
 unfoldable pub markedText : List ℕ → ℕ → List ℕ
-markedText file at = ascii " [" ++ hexOf (getD file at 0) ++ ascii "]" ++ hexesOf (between (at + 1) (at + 1 + side) file)
+markedText file at = ascii " [" ++ hexOf (getD file at 0) ++ ascii "]" ++ spacedHexes (sliceOf (at + 1) (at + 1 + side) file)
 
 -- ---- where: at a byte of the file, or at its end
 unfoldable pub byteText : List ℕ → ℕ → List ℕ
@@ -38,22 +38,22 @@ unfoldable pub endText : List ℕ → List ℕ
 endText file = ascii " at the end of the file, offset " ++ decimalOf (length file) ++ ascii ":" ++ beforeText file (length file)
 
 -- a byte by its place, which is counted from 1 at the end of the head, of so many bytes; the one past the last is the closing space
-unfoldable pub placeText : List ℕ → ℕ → ℕ → List ℕ
-placeText file head at =
+unfoldable pub atPlaceText : List ℕ → ℕ → ℕ → List ℕ
+atPlaceText file head at =
     cond (eqb at 0) (ascii " in the head") (cond (ltb (at - 1) (length file - head)) (byteText file (head + (at - 1))) (ascii ", the closing space" ++ endText file))
 
 unfoldable pub whereText : List ℕ → ℕ → Reason → ℕ → List ℕ
-whereText file head Class255 at = placeText file head at
-whereText file head BadByte at = placeText file head at
-whereText file head BadSecondByte at = placeText file head at
-whereText file head BrokenEscape at = placeText file head at
+whereText file head Class255 at = atPlaceText file head at
+whereText file head BadByte at = atPlaceText file head at
+whereText file head BadSecondByte at = atPlaceText file head at
+whereText file head BrokenEscape at = atPlaceText file head at
 whereText file head CutAtClose at = ascii "," ++ endText file
 whereText file head NotInSlate at = []
 
 -- ---- why: the reason's word, with a space for each `-`
-unfoldable pub spaced : List ℕ → List ℕ
-spaced [] = []
-spaced (b ∷ bs) = cond (eqb b 45) 32 b ∷ spaced bs
+unfoldable pub unhyphened : List ℕ → List ℕ
+unhyphened [] = []
+unhyphened (b ∷ bs) = cond (eqb b 45) 32 b ∷ unhyphened bs
 
-unfoldable pub droppedText : List ℕ → ℕ → Reason → ℕ → List ℕ
-droppedText file head d at = spaced (reasonName d) ++ whereText file head d at
+unfoldable pub spotText : List ℕ → ℕ → Reason → ℕ → List ℕ
+spotText file head d at = unhyphened (reasonName d) ++ whereText file head d at

@@ -14,24 +14,24 @@ use Rattle.scribe.specs.FitsLaws.{Fits, whole}
 use Rattle.scribe.specs.Page.{Page, page, put, onto}
 use Rattle.scribe.specs.PageLaws.{onto-append}
 use Rattle.scribe.specs.Text.{ascii, hexOf}
-use Rattle.spot.specs.Spot.{side, between, hexesOf, spaced}
+use Rattle.spot.specs.Spot.{side, sliceOf, spacedHexes, unhyphened}
 
 module _ (p q : Page) (xs : List ℕ) (i : ℕ) where
-  pub hexes-turn : i < length xs → q ≡ onto p (ascii " " ++ hexOf (getD xs i 0)) → onto q (hexesOf (drop (i + 1) xs)) ≡ onto p (hexesOf (drop i xs))
-  unfolding hexesOf
-  hexes-turn h e = rw (drop-cons xs i 0 h, add-one, e, ← onto-append p (ascii " " ++ hexOf (getD xs i 0)) (hexesOf (drop (suc i) xs)))
+  pub hexes-turn : i < length xs → q ≡ onto p (ascii " " ++ hexOf (getD xs i 0)) → onto q (spacedHexes (drop (i + 1) xs)) ≡ onto p (spacedHexes (drop i xs))
+  unfolding spacedHexes
+  hexes-turn h e = rw (drop-cons xs i 0 h, add-one, e, ← onto-append p (ascii " " ++ hexOf (getD xs i 0)) (spacedHexes (drop (suc i) xs)))
 
-  pub spaced-turn : i < length xs → q ≡ put p (cond (eqb (getD xs i 0) 45) 32 (getD xs i 0)) → onto q (spaced (drop (i + 1) xs)) ≡ onto p (spaced (drop i xs))
-  unfolding onto spaced
+  pub spaced-turn : i < length xs → q ≡ put p (cond (eqb (getD xs i 0) 45) 32 (getD xs i 0)) → onto q (unhyphened (drop (i + 1) xs)) ≡ onto p (unhyphened (drop i xs))
+  unfolding onto unhyphened
   spaced-turn h e = rw (drop-cons xs i 0 h, add-one, e)
 
 module _ (p : Page) (xs : List ℕ) (i : ℕ) (h : length xs ≤ i) where
-  pub hexes-done : onto p (hexesOf (drop i xs)) ≡ p
-  unfolding onto hexesOf
+  pub hexes-done : onto p (spacedHexes (drop i xs)) ≡ p
+  unfolding onto spacedHexes
   hexes-done = rw (drop-of-length-le xs {i = i} h)
 
-  pub spaced-done : onto p (spaced (drop i xs)) ≡ p
-  unfolding onto spaced
+  pub spaced-done : onto p (unhyphened (drop i xs)) ≡ p
+  unfolding onto unhyphened
   spaced-done = rw (drop-of-length-le xs {i = i} h)
 
 -- what stands on a page with room is the text
@@ -43,11 +43,11 @@ stands {n} {ts} {ys} {r} xs f h e =
     rw (a, b) (take-at ts (drop (length ts) xs) (length ts) refl)
 
 -- past the end of the file there are no bytes
-past : (from to : ℕ) (file : List ℕ) → length file ≤ to → between from (length file) file ≡ between from to file
+past : (from to : ℕ) (file : List ℕ) → length file ≤ to → sliceOf from (length file) file ≡ sliceOf from to file
 past from to file h = take-all (length file - from) (drop from file) (rw length-drop (omega arith)) ∙ sym (take-all (to - from) (drop from file) (rw length-drop (omega arith)))
 
-pub up-to : (from to : ℕ) (file : List ℕ) → between from (cond (ltb to (length file)) to (length file)) file ≡ between from to file
-up-to from to file = either (λ (k : ℕ). between from k file ≡ between from to file) (ltb to (length file)) (λ e. refl) (λ e. past from to file (ltb-false to (length file) e))
+pub up-to : (from to : ℕ) (file : List ℕ) → sliceOf from (cond (ltb to (length file)) to (length file)) file ≡ sliceOf from to file
+up-to from to file = either (λ (k : ℕ). sliceOf from k file ≡ sliceOf from to file) (ltb to (length file)) (λ e. refl) (λ e. past from to file (ltb-false to (length file) e))
 
 -- where the bytes after an offset end that are shown
 pub record Shown (offset length r : ℕ) : Type 0 where

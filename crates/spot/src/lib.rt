@@ -6,7 +6,7 @@ ghost use lib.Dec.{eqb};
 ghost use lib.ListN.{length};
 ghost use Prim.Native.Nat.{_-_, _<_, _≤_};
 ghost use Rattle.scribe.specs.Page.{page, onto};
-ghost use Rattle.spot.specs.Spot.{hexesOf, beforeText, markedText, byteText, endText, placeText, whereText, spaced, droppedText};
+ghost use Rattle.spot.specs.Spot.{spacedHexes, beforeText, markedText, byteText, endText, atPlaceText, whereText, unhyphened, spotText};
 ghost use Rattle.spot.specs.SpotLaws.{Shown};
 ghost use Rattle.scribe.specs.Text.{ascii};
 ghost use Rattle.names.specs.Names.{reasonName};
@@ -29,7 +29,7 @@ fn less(a: usize, b: usize) -> usize
 
 // In hexadecimal, a space before each.
 fn hexes(out: &mut [u8], at: usize, bytes: &[u8]) -> usize
-    ensures { λ r. ⌜ page (now (out .exit)) r ≡ onto (page (now (out .entry)) at) (hexesOf (now (bytes .entry))) ⌝ }
+    ensures { λ r. ⌜ page (now (out .exit)) r ≡ onto (page (now (out .entry)) at) (spacedHexes (now (bytes .entry))) ⌝ }
 {
     let mut to = at;
     let mut i = 0;
@@ -95,7 +95,7 @@ fn at_end(out: &mut [u8], at: usize, file: &[u8]) -> usize
 
 // A byte by its place, which is counted from 1 at the end of the head.
 fn at_place(out: &mut [u8], at: usize, file: &[u8], head: usize, place: usize) -> usize
-    ensures { λ r. ⌜ page (now (out .exit)) r ≡ onto (page (now (out .entry)) at) (placeText (now (file .entry)) head place) ⌝ }
+    ensures { λ r. ⌜ page (now (out .exit)) r ≡ onto (page (now (out .entry)) at) (atPlaceText (now (file .entry)) head place) ⌝ }
 {
     if place == 0 {
         return page::word(out, at, b" in the head");
@@ -142,7 +142,7 @@ fn apart(b: u8) -> u8
 }
 
 fn in_words(out: &mut [u8], at: usize, text: &[u8]) -> usize
-    ensures { λ r. ⌜ page (now (out .exit)) r ≡ onto (page (now (out .entry)) at) (spaced (now (text .entry))) ⌝ }
+    ensures { λ r. ⌜ page (now (out .exit)) r ≡ onto (page (now (out .entry)) at) (unhyphened (now (text .entry))) ⌝ }
 {
     let mut to = at;
     let mut i = 0;
@@ -154,7 +154,7 @@ fn in_words(out: &mut [u8], at: usize, text: &[u8]) -> usize
 }
 
 fn why(out: &mut [u8], at: usize, reason: Reason) -> usize
-    ensures { λ r. ⌜ page (now (out .exit)) r ≡ onto (page (now (out .entry)) at) (spaced (reasonName reason)) ⌝ }
+    ensures { λ r. ⌜ page (now (out .exit)) r ≡ onto (page (now (out .entry)) at) (unhyphened (reasonName reason)) ⌝ }
 {
     let mut word = [0u8; 16];
     let end = names::reason(&mut word, 0, reason);
@@ -170,7 +170,7 @@ pub fn dropped(
     reason: Reason,
     place: usize,
 ) -> usize
-    ensures { λ r. ⌜ page (now (out .exit)) r ≡ onto (page (now (out .entry)) at) (droppedText (now (file .entry)) head reason place) ⌝ }
+    ensures { λ r. ⌜ page (now (out .exit)) r ≡ onto (page (now (out .entry)) at) (spotText (now (file .entry)) head reason place) ⌝ }
 {
     let a = why(out, at, reason);
     location(out, a, file, head, reason, place)

@@ -5,8 +5,8 @@ use borrow.Author.Needs.{needs}
 use Rattle.account.proofs.write.Statement.{statement}
 use Rattle.account.proofs.write.Tie as tie
 
-head-of-requires : tie.Need-head-of-requires
-head-of-requires c κs = search needs
+head-length-requires : tie.Need-head-length-requires
+head-length-requires c κs = search needs
 
 count-lines-requires : tie.Need-count-lines-requires
 count-lines-requires c κs = search needs
@@ -19,9 +19,9 @@ same-length c = search needs
 
 returns : tie.Need-returns
 unfolding accountOf
-returns c = follow _ _ _ (rw (c .before .before .before .before .before .before .before .before .head-of .ensures) at (c .before .before .before .before .before .before .count-lines .ensures)) (rw (c .before .before .before .before .before .before .before .before .head-of .ensures) at (c .before .before .place-lines .ensures))
+returns c = follow _ _ _ (rw (c .before .before .before .before .before .before .before .before .head-length .ensures) at (c .before .before .before .before .before .before .count-lines .ensures)) (rw (c .before .before .before .before .before .before .before .before .head-length .ensures) at (c .before .before .place-lines .ensures))
 
 pub write-spec : {M : Type 1} → statement M
 write-spec =
     tie.close
-    (tie.spec head-of-requires count-lines-requires place-lines-requires same-length returns)
+    (tie.spec head-length-requires count-lines-requires place-lines-requires same-length returns)

@@ -4,7 +4,7 @@ use Prim.Native.Nat.{_-_}
 use lib.ListN.{length}
 use borrow.Author.Tests.{eq-eqb, ne-eqb, lt-ltb, le-ltb}
 use Rattle.scribe.specs.PageLaws.{follow}
-use Rattle.spot.specs.Spot.{placeText}
+use Rattle.spot.specs.Spot.{atPlaceText}
 use borrow.Author.Needs.{needs}
 use Rattle.spot.proofs.at_place.Statement.{statement}
 use Rattle.spot.proofs.at_place.Tie as tie
@@ -19,7 +19,7 @@ same-length : tie.Need-same-length
 same-length c = search needs
 
 returns : tie.Need-returns
-unfolding placeText
+unfolding atPlaceText
 returns c = rw (eq-eqb _ _ (c .before .before .before .before .before .if1 .taken)) (c .before .before .word .ensures)
 
 sub-if2 : tie.Need-sub-if2
@@ -41,7 +41,7 @@ same-length-2 : tie.Need-same-length-2
 same-length-2 c = search needs
 
 returns-2 : tie.Need-returns-2
-unfolding placeText
+unfolding atPlaceText
 returns-2 c = let a = c .before .before .before .before .before .before .before .before .before .args in rw (ne-eqb _ _ (c .before .before .before .before .before .before .if1 .left), lt-ltb (a .place - 1) (length (a .file .now) - a .head) (rw (c .before .before .before .before .before .less .ensures) at (c .before .before .before .before .if2 .taken))) (c .before .before .at-byte .ensures)
 
 slice-aggregate-word-2 : tie.Need-slice-aggregate-word-2
@@ -57,7 +57,7 @@ same-length-3 : tie.Need-same-length-3
 same-length-3 c = search needs
 
 returns-3 : tie.Need-returns-3
-unfolding placeText
+unfolding atPlaceText
 returns-3 c = let a = c .before .before .before .before .before .before .before .before .before .before .before .before .before .before .args in rw (ne-eqb _ _ (c .before .before .before .before .before .before .before .before .before .before .before .if1 .left), le-ltb (a .place - 1) (length (a .file .now) - a .head) (rw (c .before .before .before .before .before .before .before .before .before .before .less .ensures) at (c .before .before .before .before .before .before .before .before .before .if2 .left))) (follow _ _ _ (c .before .before .before .before .before .before .word2 .ensures) (c .before .before .at-end .ensures))
 
 pub at-place-spec : {M : Type 1} → statement M

@@ -1,6 +1,6 @@
 -- `dropped` meets its contract.
 use Rattle.scribe.specs.PageLaws.{follow}
-use Rattle.spot.specs.Spot.{droppedText}
+use Rattle.spot.specs.Spot.{spotText}
 use borrow.Author.Needs.{needs}
 use Rattle.spot.proofs.dropped.Statement.{statement}
 use Rattle.spot.proofs.dropped.Tie as tie
@@ -15,7 +15,7 @@ same-length : tie.Need-same-length
 same-length c = search needs
 
 returns : tie.Need-returns
-unfolding droppedText
+unfolding spotText
 returns c = follow _ _ _ (c .before .before .before .before .before .before .why .ensures) (c .before .before .location .ensures)
 
 pub dropped-spec : {M : Type 1} → statement M

@@ -4,7 +4,7 @@ use Prim.Native.Nat.{_≤_, _-_}
 use native.Mathlib.Omega.{arith}
 use lib.ListN.{length, drop}
 use Rattle.scribe.specs.Page.{page, onto}
-use Rattle.spot.specs.Spot.{hexesOf}
+use Rattle.spot.specs.Spot.{spacedHexes}
 use Rattle.scribe.specs.PageLaws.{follow, onto-one}
 use Rattle.spot.specs.SpotLaws.{hexes-turn, hexes-done}
 use borrow.Author.Needs.{needs}
@@ -12,7 +12,7 @@ use Rattle.spot.proofs.hexes.Statement.{statement}
 use Rattle.spot.proofs.hexes.Tie as tie
 
 abbrev Inv-loop : tie.InvT-loop
-Inv-loop out₀ at bytes to₀ i₀ out to i = (i ≤ length bytes) × ((length out ≡ length out₀) × (onto (page out to) (hexesOf (drop i bytes)) ≡ onto (page out₀ at) (hexesOf bytes)))
+Inv-loop out₀ at bytes to₀ i₀ out to i = (i ≤ length bytes) × ((length out ≡ length out₀) × (onto (page out to) (spacedHexes (drop i bytes)) ≡ onto (page out₀ at) (spacedHexes bytes)))
 
 abbrev μ-loop : tie.MeasureT-loop
 μ-loop out₀ at bytes to₀ i₀ out to i = length bytes - i

@@ -4,7 +4,7 @@ use Prim.Native.Nat.{_≤_, _-_}
 use native.Mathlib.Omega.{arith}
 use lib.ListN.{length, drop}
 use Rattle.scribe.specs.Page.{page, onto}
-use Rattle.spot.specs.Spot.{spaced}
+use Rattle.spot.specs.Spot.{unhyphened}
 use Rattle.scribe.specs.PageLaws.{follow, onto-one}
 use Rattle.spot.specs.SpotLaws.{spaced-turn, spaced-done}
 use borrow.Author.Needs.{needs}
@@ -12,7 +12,7 @@ use Rattle.spot.proofs.in_words.Statement.{statement}
 use Rattle.spot.proofs.in_words.Tie as tie
 
 abbrev Inv-loop : tie.InvT-loop
-Inv-loop out₀ at text to₀ i₀ out to i = (i ≤ length text) × ((length out ≡ length out₀) × (onto (page out to) (spaced (drop i text)) ≡ onto (page out₀ at) (spaced text)))
+Inv-loop out₀ at text to₀ i₀ out to i = (i ≤ length text) × ((length out ≡ length out₀) × (onto (page out to) (unhyphened (drop i text)) ≡ onto (page out₀ at) (unhyphened text)))
 
 abbrev μ-loop : tie.MeasureT-loop
 μ-loop out₀ at text to₀ i₀ out to i = length text - i

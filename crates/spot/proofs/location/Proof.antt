@@ -8,13 +8,13 @@ use Rattle.laws.proofs.Reason.{the-type}
 use Rattle.laws.specs.declared.Reason.{Reason}
 use Rattle.laws.specs.declared.Reason.the-variants.{Class255, BadByte, BadSecondByte, BrokenEscape, CutAtClose, NotInSlate}
 use Rattle.scribe.specs.Page.{onto}
-use Rattle.spot.specs.Spot.{placeText, whereText}
+use Rattle.spot.specs.Spot.{atPlaceText, whereText}
 use borrow.Author.Needs.{needs}
 use Rattle.spot.proofs.location.Statement.{statement}
 use Rattle.spot.proofs.location.Tie as tie
 
 -- the arm of the reasons that a byte gives
-of-byte : (file : List ℕ) (head : ℕ) (d : Reason) (at : ℕ) → OneOf (0 ∷ 1 ∷ 2 ∷ 3 ∷ []) (tagOf the-type d) → placeText file head at ≡ whereText file head d at
+of-byte : (file : List ℕ) (head : ℕ) (d : Reason) (at : ℕ) → OneOf (0 ∷ 1 ∷ 2 ∷ 3 ∷ []) (tagOf the-type d) → atPlaceText file head at ≡ whereText file head d at
 unfolding whereText
 of-byte file head Class255 at o = refl
 of-byte file head BadByte at o = refl
