@@ -1,12 +1,12 @@
 -- Each way through feeding a place, and that it stays in order.
 use mathlib.Core.Path.{_≡_, refl, sym, ap, _∙_}
 use mathlib.Core.Bool.{Bool, true, false}
-use mathlib.Core.List.{List, []}
+use mathlib.Core.List.{List, [], _++_}
 use Prim.Native.Nat.{ℕ, _+_, _-_, _*_, _^_, _<_, _≤_}
 use native.Mathlib.Nat.{mul-le-mul-left}
 use native.Mathlib.Omega.{arith}
 use lib.IntN.{ℤ, pos, natAbs}
-use lib.ListN.{length}
+use lib.ListN.{length, length-append}
 use Rattle.laws.specs.Carried.{Holds}
 use Rattle.laws.specs.Limit.{limit}
 use Rattle.laws.specs.Run.{Outcome, none, live, plus, run, endsAt, lastAt, ends-some}
@@ -64,6 +64,18 @@ module _ (t : Own) (body : ℕ) (p : Place) where
   pub end-live : (z : ℤ) → p .score ≡ Live z → placeAs (p .machine) (endAt (p .machine) body) (plus z (closeOf t (p .machine))) ≡ endOf t body p
   unfolding endFrom
   end-live z e = rw e
+
+-- ---- what is counted: in a part that begins with bytes of the head and has all that has come after it, a byte of the head has
+-- place 0 and the n-th one after it place n; in a later part the n-th byte stands n behind all that came before
+module _ (hs xs : List ℕ) (n : ℕ) where
+  pub head-place : n ≤ length hs → byteAt (length xs) (hs ++ xs) n ≡ 0
+  head-place h = omega (arith, length-append hs xs)
+
+  pub rest-place : n ≤ length xs → byteAt (length xs) (hs ++ xs) (length hs + n) ≡ n
+  rest-place h = omega (arith, length-append hs xs)
+
+pub later-place : (b : ℕ) (xs : List ℕ) (n : ℕ) → n ≤ length xs → byteAt (b + length xs) xs n ≡ b + n
+later-place b xs n h = omega arith
 
 -- an empty part that is not the last one leaves a place as it is
 pub feed-nil : (t : Own) (body : ℕ) (p : Place) → feedOf t false body [] p ≡ p
