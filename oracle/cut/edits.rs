@@ -63,6 +63,7 @@ const CANDIDATE_MEMBERS: &[&str] = &[
     "fn new_iso_2022_jp",
     "fn new_euc_kr",
     "fn new_big5",
+    "fn plausible_punctuation",
 ];
 
 pub enum How {

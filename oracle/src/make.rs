@@ -3,6 +3,7 @@
 
 mod cuts;
 mod drive;
+mod hebrew;
 mod leaves;
 mod malformed;
 mod named;

@@ -6,6 +6,10 @@ use crate::order::LIMIT;
 use crate::sheet;
 use crate::{BeforeNonAscii, Candidate, EncodingDetector, Iso2022JpDetection};
 
+/// The places of Hebrew in logical and in visual order.
+const LOGICAL: usize = 5;
+const VISUAL: usize = 6;
+
 pub struct Stream {
     pub detector: EncodingDetector,
     pub bytes: u64,
@@ -55,18 +59,30 @@ impl Stream {
         (0, self.detector.feed(chunk, last))
     }
 
+    /// The leader's name. The first place of those with the greatest score
+    /// leads; between the two orders of Hebrew their punctuation settles it.
     pub fn leader(&self) -> &'static str {
         if self.detector.non_ascii_seen == 0 && !self.detector.esc_seen {
             return "ascii";
         }
-        let mut best = None;
-        for (candidate, name) in self.detector.candidates.iter().zip(sheet::NAMES) {
-            if let Some(score) = candidate.score {
-                if best.is_none_or(|(most, _)| score > most) {
-                    best = Some((score, name));
-                }
-            }
+        let scores = self.detector.candidates.each_ref().map(|candidate| candidate.score);
+        let most = scores.iter().flatten().max();
+        let first = most.and_then(|most| scores.iter().position(|&score| score == Some(*most)));
+        first.map_or("none", |first| sheet::NAMES[self.settled(first)])
+    }
+
+    /// Where both orders of Hebrew have scores and `first` is one of them, the
+    /// one with more plausible punctuation, and the logical one of equals; else
+    /// `first`. This rule is our own.
+    fn settled(&self, first: usize) -> usize {
+        let [logical, visual] = [LOGICAL, VISUAL].map(|place| &self.detector.candidates[place]);
+        if ![LOGICAL, VISUAL].contains(&first) || logical.score.is_none() || visual.score.is_none()
+        {
+            return first;
         }
-        best.map_or("none", |(_, name)| name)
+        match visual.plausible_punctuation() > logical.plausible_punctuation() {
+            true => VISUAL,
+            false => LOGICAL,
+        }
     }
 }

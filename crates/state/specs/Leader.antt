@@ -7,6 +7,7 @@ use lib.Signed.{ltZ}
 use Rattle.places.specs.declared.place.Place.{Place}
 use Rattle.places.specs.declared.place.Score.{Score}
 use Rattle.places.specs.declared.place.Score.the-variants as score
+use Rattle.state.specs.Hebrew.{namedOf}
 use Rattle.state.specs.State.{triggered}
 use Rattle.state.specs.declared.leader.Best.{Best}
 use Rattle.state.specs.declared.leader.Best.the-variants as best
@@ -28,10 +29,11 @@ unfoldable pub bestFrom : Best → ℕ → List Place → Best
 bestFrom b k [] = b
 bestFrom b k (p ∷ ps) = bestFrom (betterOf b k (p .score)) (suc k) ps
 
-abbrev pub leaderAs : Best → Leader
-leaderAs best.None = None
-leaderAs (best.Score k n) = At k
+abbrev pub leaderAs : List Place → Best → Leader
+leaderAs ps best.None = None
+leaderAs ps (best.Score k n) = At (namedOf ps k)
 
--- "ascii" before any trigger, "none" if no place has a score, else the greatest score, the lowest place on ties
+-- "ascii" before any trigger, "none" if no place has a score, else the greatest score, the lowest place on ties; between the two
+-- orders of Hebrew, if both have scores, more plausible punctuation
 unfoldable pub leaderOf : State → Leader
-leaderOf s = cond (triggered (s .front)) (leaderAs (bestFrom best.None 0 (s .places))) Ascii
+leaderOf s = cond (triggered (s .front)) (leaderAs (s .places) (bestFrom best.None 0 (s .places))) Ascii

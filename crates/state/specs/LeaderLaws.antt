@@ -44,6 +44,6 @@ module _ (places : List Place) where
   pub looked-best : (b : Best) (k : ℕ) → Looked b k → 8 ≤ k → b ≡ bestFrom best.None 0 places
   looked-best b k o h = sym (looked-all b k (drop k places) (rw (length-drop, o .eight) (omega arith))) ∙ o .rest
 
-pub leader-is : (s : State) (b : Best) → triggered (s .front) ≡ true → b ≡ bestFrom best.None 0 (s .places) → leaderAs b ≡ leaderOf s
+pub leader-is : (s : State) (b : Best) → triggered (s .front) ≡ true → b ≡ bestFrom best.None 0 (s .places) → leaderAs (s .places) b ≡ leaderOf s
 unfolding leaderOf
 leader-is s b e q = rw (e, q)

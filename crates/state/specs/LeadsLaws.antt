@@ -1,5 +1,5 @@
--- The leader leads: what the walk over the places finds has the greatest score, and stands first among those that have it. Assumes
--- nothing.
+-- The leader leads, and nothing else does. What the walk over the places finds has the greatest score, and stands first among those
+-- that have it. Assumes nothing.
 use mathlib.Core.Path.{_≡_, refl, sym, ap, subst, _∙_}
 use mathlib.Core.Bool.{Bool, true, false, cond}
 use mathlib.Core.List.{List, [], _∷_, _++_, append-nil, append-assoc}
@@ -15,17 +15,20 @@ use borrow.Author.Tests.{lt-ltb, le-ltb, ltb-true, ltb-false}
 use Rattle.places.specs.declared.place.Place.{Place}
 use Rattle.places.specs.declared.place.Score.{Score}
 use Rattle.places.specs.declared.place.Score.the-variants as score
+use Rattle.state.specs.Hebrew.{nowhere, namedOf}
+use Rattle.state.specs.HebrewLaws.{named-is, named-only}
 use Rattle.state.specs.State.{triggered}
 use Rattle.state.specs.Leader.{againstBest, betterOf, bestFrom, leaderAs, leaderOf}
-use Rattle.state.specs.Leads.{AtMost, Below, EachBelow, Leads, Dropped, Scoreless, LeaderFor}
+use Rattle.state.specs.Leads.{AtMost, Below, EachBelow, Greatest, Dropped, Scoreless, Leads, LeaderFor}
 use Rattle.state.specs.declared.leader.Best.{Best}
 use Rattle.state.specs.declared.leader.Best.the-variants as best
-use Rattle.state.specs.declared.leader.Leader.the-variants.{Ascii}
+use Rattle.state.specs.declared.leader.Leader.{Leader}
+use Rattle.state.specs.declared.leader.Leader.the-variants.{Ascii, None, Place as At}
 use Rattle.state.specs.declared.State.{State}
 
 abbrev IsBest : List Place → Best → Type 0
 IsBest ps best.None = Scoreless ps
-IsBest ps (best.Score k n) = Leads ps k n
+IsBest ps (best.Score k n) = Greatest ps k n
 
 -- ---- the order of scores
 irreflexive : (n : ℤ) → ltZ n n ≡ false
@@ -91,7 +94,7 @@ module _ (ps : List Place) (p : Place) where
   each-to P Q k f g j d h = f (getD ps j d .score) (g j d h)
 
   -- the new place leads, where it has a score that is greater than what was known
-  leads-new : (n : ℤ) → p .score ≡ score.Live n → EachBelow (Below n) (length ps) ps → Leads more (length ps) n
+  leads-new : (n : ℤ) → p .score ≡ score.Live n → EachBelow (Below n) (length ps) ps → Greatest more (length ps) n
   leads-new n e f =
       record {
         within = omega (arith, length-more);
@@ -101,7 +104,7 @@ module _ (ps : List Place) (p : Place) where
       }
 
   -- the old one stays, where the new one has none or no greater one
-  leads-old : (k : ℕ) (n : ℤ) → Leads ps k n → AtMost n (p .score) → Leads more k n
+  leads-old : (k : ℕ) (n : ℤ) → Greatest ps k n → AtMost n (p .score) → Greatest more k n
   leads-old k n l a =
       record {
         within = omega (arith, length-more, l .within);
@@ -143,15 +146,59 @@ best-is ps (q ∷ qs) b i =
 best-of-all : (ps : List Place) → IsBest ps (bestFrom best.None 0 ps)
 best-of-all ps = best-is [] ps best.None (λ (j : ℕ) (d : Place) h. absurd (not-suc-le-zero h))
 
-led-as : (s : State) (b : Best) → triggered (s .front) ≡ true → IsBest (s .places) b → LeaderFor s (leaderAs b)
+led-as : (s : State) (b : Best) → triggered (s .front) ≡ true → IsBest (s .places) b → LeaderFor s (leaderAs (s .places) b)
 led-as s best.None e i = (e, i)
-led-as s (best.Score k n) e i = (e, record { most = n; leads = i })
+led-as s (best.Score k n) e i = (e, record { at = k; most = n; greatest = i; named = named-is (s .places) k })
 
--- The greatest score leads, the lowest place on ties; none where no place has a score; ascii before any trigger.
+-- The greatest score leads, the lowest place on ties, or its rival in Hebrew; none where no place has a score; ascii before any
+-- trigger.
 pub leader-leads : (s : State) → LeaderFor s (leaderOf s)
 unfolding leaderOf
 leader-leads s = pick (triggered (s .front)) refl
   where
-    pick : (t : Bool) → triggered (s .front) ≡ t → LeaderFor s (cond t (leaderAs (bestFrom best.None 0 (s .places))) Ascii)
+    pick : (t : Bool) → triggered (s .front) ≡ t → LeaderFor s (cond t (leaderAs (s .places) (bestFrom best.None 0 (s .places))) Ascii)
     pick true e = led-as s (bestFrom best.None 0 (s .places)) e (best-of-all (s .places))
     pick false e = e
+
+-- ---- and nothing else leads
+-- a place before one that has the greatest score has a lesser one, so that it has not the greatest
+before : (ps : List Place) (j k : ℕ) (m n : ℤ) → Greatest ps j m → Greatest ps k n → j < k → ⊥
+before ps j k m n a b h = clash (subst (Below n) (a .there d) (b .lowest j d h)) (subst (AtMost m) (b .there d) (a .greatest k d (b .within)))
+  where
+    d : Place
+    d = nowhere
+
+    clash : ltZ m n ≡ true → ltZ m n ≡ false → ⊥
+    clash p q = let z : _≡_ {A = ℕ} 0 1 = cc in omega arith
+
+one-greatest : (ps : List Place) (j k : ℕ) (m n : ℤ) → Greatest ps j m → Greatest ps k n → j ≡ k
+one-greatest ps j k m n a b = pick (ltb j k) (ltb k j) refl refl
+  where
+    pick : (t u : Bool) → ltb j k ≡ t → ltb k j ≡ u → j ≡ k
+    pick true u e f = absurd (before ps j k m n a b (ltb-true j k e))
+    pick false true e f = absurd (before ps k j n m b a (ltb-true k j f))
+    pick false false e f = omega (arith, ltb-false j k e, ltb-false k j f)
+
+one-leads : (ps : List Place) (j k : ℕ) → Leads ps j → Leads ps k → j ≡ k
+one-leads ps j k a b =
+    let e = one-greatest ps (a .at) (b .at) (a .most) (b .most) (a .greatest) (b .greatest) in
+    named-only ps (a .at) j (a .named) ∙ (ap (namedOf ps) e ∙ sym (named-only ps (b .at) k (b .named)))
+
+-- the place that has the greatest score has one
+not-scoreless : (ps : List Place) (k : ℕ) → Scoreless ps → Leads ps k → ⊥
+not-scoreless ps k f l = subst Dropped (l .greatest .there nowhere) (f (l .at) nowhere (l .greatest .within))
+
+met-not : {A : Type 0} (s : State) → triggered (s .front) ≡ true → triggered (s .front) ≡ false → A
+met-not s p q = absurd (let z : _≡_ {A = ℕ} 0 1 = cc in omega arith)
+
+-- What is said of the leader without a walk holds of one leader only.
+pub one-leader : (s : State) (l m : Leader) → LeaderFor s l → LeaderFor s m → l ≡ m
+one-leader s Ascii Ascii a b = refl
+one-leader s Ascii None a b = met-not s (b .0) a
+one-leader s Ascii (At k) a b = met-not s (b .0) a
+one-leader s None Ascii a b = met-not s (a .0) b
+one-leader s None None a b = refl
+one-leader s None (At k) a b = absurd (not-scoreless (s .places) k (a .1) (b .1))
+one-leader s (At j) Ascii a b = met-not s (a .0) b
+one-leader s (At j) None a b = absurd (not-scoreless (s .places) j (b .1) (a .1))
+one-leader s (At j) (At k) a b = ap At (one-leads (s .places) j k (a .1) (b .1))

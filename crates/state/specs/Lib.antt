@@ -1,3 +1,5 @@
+pub mod Hebrew
+pub mod HebrewLaws
 pub mod Leader
 pub mod LeaderLaws
 pub mod Leads

@@ -3,6 +3,7 @@ ghost use mathlib.Core.Path.{_≡_};
 ghost use Rattle.state.specs.Leader.{betterOf, bestFrom, leaderOf};
 ghost use Rattle.state.specs.declared.leader.Best.the-variants as best;
 use crate::State;
+use crate::hebrew;
 use places::place::Score;
 use places::place::Slate;
 use places::slate::PLACES;
@@ -51,7 +52,7 @@ fn greatest(places: Slate) -> Best
     best
 }
 
-// The place that leads, the lowest at a tie.
+// The place that leads: the greatest score, the lowest place at a tie; between the two orders of Hebrew their punctuation.
 pub fn of(state: State) -> Leader
     ensures { λ r. ⌜ r ≡ leaderOf state ⌝ }
 {
@@ -60,7 +61,7 @@ pub fn of(state: State) -> Leader
     if front.is_triggered() {
         return match greatest(places) {
             Best::None => Leader::None,
-            Best::Score(at, _) => Leader::Place(at),
+            Best::Score(at, _) => Leader::Place(hebrew::named(places, at)),
         };
     }
     Leader::Ascii

@@ -4,6 +4,7 @@ ghost use Rattle.state.specs.Order.{stateB};
 ghost use Rattle.state.specs.State.{startOf};
 
 pub mod front;
+mod hebrew;
 pub mod leader;
 pub mod reply;
 

@@ -1,6 +1,7 @@
 //! Whole streams: commands of the replay format, to stand after lent data.
 
 use super::cuts::{cut_up, cuts, CUT};
+use super::hebrew::HEBREW;
 use super::text::{damage, text, Text, ALL, VALID};
 use super::{kept, reasons, tables, TELLING};
 use crate::order::LIMIT;
@@ -109,18 +110,17 @@ impl<W: Write> Script<'_, W> {
         self.every_cut(CUT, &ways.concat(), count)
     }
 
-    /// Every cut of the streams in which places drop out, closed both ways.
-    fn reasons(&mut self, count: u64) -> Result<()> {
+    /// Every cut of each stream, closed both ways.
+    fn closed_cuts<S: AsRef<[u8]>>(&mut self, streams: &[S], count: u64) -> Result<()> {
         let ways = CLOSED.map(|end| Way { with_empty: false, end });
-        self.every_cut(&reasons::streams(), &ways, count)
+        self.every_cut(streams, &ways, count)
     }
 
-    /// Three cuts of each of these: none, every byte alone, and any.
-    fn reasons_few(&mut self, count: u64) -> Result<()> {
-        let streams = reasons::streams();
+    /// Three cuts of each stream: none, every byte alone, and any.
+    fn few_cuts<S: AsRef<[u8]>>(&mut self, streams: &[S], count: u64) -> Result<()> {
         let total = streams.len() * 3;
         for index in (0..total).filter(|&index| kept(index as u64, total as u64, count)) {
-            let stream = &streams[index / 3];
+            let stream = streams[index / 3].as_ref();
             let cut = match index % 3 {
                 0 => 0,
                 1 => cuts(stream) - 1,
@@ -234,8 +234,11 @@ pub fn run(kind: &str, seed: u64, count: u64, out: &mut impl Write) -> Result<bo
     match kind {
         "short" => script.short(count)?,
         "cuts" => script.cuts(count)?,
-        "reasons" => script.reasons(count)?,
-        "reasons-few" => script.reasons_few(count)?,
+        "reasons" => script.closed_cuts(&reasons::streams(), count)?,
+        "reasons-few" => script.few_cuts(&reasons::streams(), count)?,
+        "hebrew" => script.closed_cuts(HEBREW, count)?,
+        "hebrew-few" => script.few_cuts(HEBREW, count)?,
+        "hebrew-text" => script.texts(&[Text::Hebrew], false, count)?,
         "heads" => script.heads(count)?,
         "random" => script.texts(&ALL, false, count)?,
         "mostly-valid" => script.texts(&VALID, false, count)?,

@@ -66,6 +66,7 @@ pub fn named(name: &str, seed: u64) -> Option<Tables> {
         "mild" => Some(mild(seed)),
         "class255" => Some(class255(seed)),
         "ascii255" => Some(ascii255()),
+        "hebrew" => Some(hebrew()),
         _ => None,
     }
 }
@@ -268,5 +269,28 @@ fn ascii255() -> Tables {
     for place in [4, 6, 7] {
         tables.set(Part::Class(place), usize::from(b' '), 255);
     }
+    tables
+}
+
+/// The demonstration data with Hebrew before the other places. The letters
+/// stand in three groups: logical and visual score alike on E0..EF, visual
+/// more on F0..FA, caseless most on C0..CF. Logical lacks DE, visual lacks DF.
+fn hebrew() -> Tables {
+    let mut tables = demo();
+    for (place, alike, more, most) in
+        [(4, 5, 5, 20), (5, 10, 10, 10), (6, 10, 11, 10), (7, 4, 4, 4)]
+    {
+        for (letters, class, score) in
+            [(0xE0..=0xEF, 2, alike), (0xF0..=0xFA, 3, more), (0xC0..=0xCF, 4, most)]
+        {
+            for letter in letters {
+                tables.set(Part::Class(place), letter, class);
+            }
+            tables.set(Part::Mark(place), class as usize, 1);
+            tables.set(Part::Pair(place), 128 * class as usize + class as usize, score);
+        }
+    }
+    tables.set(Part::Class(5), 0xDE, 255);
+    tables.set(Part::Class(6), 0xDF, 255);
     tables
 }

@@ -19,6 +19,9 @@ pub enum Text {
     /// indexes map, all of them.
     Hangul,
     Hanzi,
+    /// Words of Hebrew letters as the tables `hebrew` have them, with
+    /// punctuation at either end.
+    Hebrew,
 }
 
 /// What one of the encodings allows.
@@ -40,6 +43,7 @@ pub fn named(name: &str) -> Option<Text> {
     match name {
         "hangul" => Some(Text::Hangul),
         "hanzi" => Some(Text::Hanzi),
+        "hebrew" => Some(Text::Hebrew),
         _ => names.iter().position(|&known| known == name).map(|at| ALL[at]),
     }
 }
@@ -59,6 +63,7 @@ pub fn text(random: &mut Random, kind: Text, length: usize) -> Vec<u8> {
             Text::Telling => bytes.push(*random.pick(&TELLING)),
             Text::Hangul => hangul(random, &mut bytes),
             Text::Hanzi => hanzi(random, &mut bytes),
+            Text::Hebrew => hebrew(random, &mut bytes),
         }
     }
     bytes
@@ -163,6 +168,22 @@ fn hanzi(random: &mut Random, bytes: &mut Vec<u8>) {
         1 => bytes.extend(b" "),
         _ => bytes.extend(*random.pick(&[b"\xA1\x41", b"\xA1\x43"])),
     }
+}
+
+/// A word, of letters on which both orders score alike or visual more, now
+/// and then on which caseless scores most; rarely a byte that one order lacks.
+fn hebrew(random: &mut Random, bytes: &mut Vec<u8>) {
+    let (low, high) = *random.pick(&[(0xE0, 0xEF), (0xE0, 0xEF), (0xF0, 0xFA), (0xC0, 0xC3)]);
+    let mark = *random.pick(b".,:;?!");
+    let (before, after) =
+        *random.pick(&[(true, false), (false, true), (true, true), (false, false)]);
+    bytes.extend(before.then_some(mark));
+    bytes.extend((0..=random.below(6)).map(|_| random.within(low, high)));
+    bytes.extend(after.then_some(mark));
+    if random.once_in(30) {
+        bytes.push(*random.pick(b"\xDE\xDF"));
+    }
+    bytes.push(b' ');
 }
 
 fn single(random: &mut Random, bytes: &mut Vec<u8>) {
