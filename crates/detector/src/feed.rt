@@ -104,13 +104,16 @@ pub fn feed(
         Verdict::Refuse(reply) => Fed { state, reply },
         Verdict::Accept => {
             let front = state.front;
-            let places = state.places;
             let trigger = front::trigger_in(front, chunk);
             let next = front::uncounted(front, trigger, chunk, last);
             let body = next.body;
             match front::due_by(front, trigger) {
-                Due::Nothing => accepted(next, places),
+                Due::Nothing => {
+                    let places = state.places;
+                    accepted(next, places)
+                }
                 Due::Part(from) => {
+                    let places = state.places;
                     let part = &chunk[from..];
                     let fed = slate::feed(
                         places,
@@ -138,6 +141,7 @@ pub fn feed(
                     accepted(front::counted(next, part), fed)
                 }
                 Due::After(count) => {
+                    let places = state.places;
                     let context = front.context;
                     let saved = context.bytes();
                     let fed = slate::feed_after(

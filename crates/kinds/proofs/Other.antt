@@ -1,5 +1,6 @@
--- What a function that runs one kind alone answers to a machine of another: the keys of its else-branch are the other kinds' numbers.
-use mathlib.Core.Path.{_≡_, refl, ap, _∙_}
+-- What a function of one kind alone knows of a machine of another, and what it answers: the keys of its else-branch are the other
+-- kinds' numbers.
+use mathlib.Core.Path.{_≡_, refl, sym, ap, _∙_}
 use mathlib.Core.Bool.{false}
 use mathlib.Core.List.{List}
 use Prim.Native.Nat.{ℕ}
@@ -25,5 +26,8 @@ number (Logical m) = refl
 number (Visual m) = refl
 number (ArabicFrench m) = refl
 
+pub other-number : (k : ℕ) (ks : List ℕ) → T (isAtAll (λ (n : ℕ). eqb n k) false ks) → (m : Machine) → OneOf ks (tagOf the-type m) → eqb (placeNumber m) k ≡ false
+other-number k ks t m h = sym (at-keys (λ (n : ℕ). eqb n k) false ks t (tagOf the-type m) h ∙ ap (λ (n : ℕ). eqb n k) (number m))
+
 pub other-kind : (k : ℕ) (ks : List ℕ) → T (isAtAll (λ (n : ℕ). eqb n k) false ks) → (o : Own) (m : Machine) (xs : List ℕ) → OneOf ks (tagOf the-type m) → Unfit ≡ ranAt k o m xs
-other-kind k ks t o m xs h = unfit-at k o m xs (at-keys (λ (n : ℕ). eqb n k) false ks t (tagOf the-type m) h ∙ ap (λ (n : ℕ). eqb n k) (number m))
+other-kind k ks t o m xs h = unfit-at k o m xs (sym (other-number k ks t m h))

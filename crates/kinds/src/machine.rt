@@ -39,11 +39,19 @@ pub enum Ran {
     Unfit,
 }
 
+// The record is made anew from its fields in UTF-8 and EUC-KR, so that the compiler does not put it together byte by byte.
 fn of_utf8(r: utf8::Ran) -> Ran
     ensures { λ r2. ⌜ r2 ≡ ofUtf8 r ⌝ }
 {
     match r {
-        utf8::Ran::Live(m) => Ran::Live(Machine::Utf8(m), 0),
+        utf8::Ran::Live(m) => {
+            let anew = Utf8 {
+                need: m.need,
+                lo: m.lo,
+                hi: m.hi,
+            };
+            Ran::Live(Machine::Utf8(anew), 0)
+        }
         utf8::Ran::Dropped(reason, at) => Ran::Dropped(reason, at),
         utf8::Ran::Unfit => Ran::Unfit,
     }
@@ -63,7 +71,19 @@ fn of_euckr(r: euckr::Ran) -> Ran
     ensures { λ r2. ⌜ r2 ≡ ofEucKr r ⌝ }
 {
     match r {
-        euckr::Ran::Live(m, change) => Ran::Live(Machine::EucKr(m), change),
+        euckr::Ran::Live(m, change) => {
+            let prev = m.prev;
+            let held = m.held;
+            let anew = EucKr {
+                lead: m.lead,
+                prev_byte: m.prev_byte,
+                prev_was_euc_range: m.prev_was_euc_range,
+                prev,
+                current_word_len: m.current_word_len,
+                held,
+            };
+            Ran::Live(Machine::EucKr(anew), change)
+        }
         euckr::Ran::Dropped(reason, at) => Ran::Dropped(reason, at),
         euckr::Ran::Unfit => Ran::Unfit,
     }

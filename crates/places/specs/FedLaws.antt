@@ -7,7 +7,7 @@ use native.Mathlib.Nat.{mul-le-mul-left}
 use native.Mathlib.Omega.{arith}
 use lib.Dec.{eqb, ltb}
 use lib.IntN.{ℤ, pos, natAbs}
-use lib.ListN.{length}
+use lib.ListN.{length, getD}
 use borrow.Author.Tests.{eq-eqb, ltb-true, ltb-false}
 use Rattle.laws.specs.Each.{EachFrom}
 use Rattle.laws.specs.Limit.{limit}
@@ -35,8 +35,8 @@ use Rattle.places.specs.Order.{ScoredFor, PlaceFor, SlateFor}
 use Rattle.places.specs.OrderLaws.{BoundedOut, KnownRun, bounded-more, decoder-end, end-for}
 use Rattle.places.specs.Place.{place, placeAs, endAt, endOf, feedOf}
 use Rattle.places.specs.PlaceLaws.{feed-none, feed-open, end-none, end-live, bounded-out, settled-as, fed-way, kept-none, kept-open, kept-last, ended-none}
-use Rattle.places.specs.Slate.{feedFrom, feedAll}
-use Rattle.places.specs.SlateLaws.{joined, listed, eight, slate-more}
+use Rattle.places.specs.Slate.{placeAt, feedFrom, feedAll}
+use Rattle.places.specs.SlateLaws.{place-read, joined, listed, eight, slate-more}
 use Rattle.places.specs.Steps.{BoundedScore, FitPart}
 use Rattle.places.specs.declared.place.Place.{Place}
 use Rattle.places.specs.declared.place.Score.{Score}
@@ -272,24 +272,38 @@ module _ (f : Machine) (s : ℤ) (body bytes : ℕ) (r : Ran) where
   unfolding settledOf
   settled-unfit e = rw e
 
-module _ (k : ℕ) (t : Own) (body : ℕ) (xs : List ℕ) (p : Place) (f : Machine) (fresh : f ≡ freshAt k) where
-  pub way-none : (d : Reason) (at : ℕ) → p .score ≡ None d at → (place f (p .score) ≡ fedAs k t body xs p) × KnownFed k t xs p
-  unfolding settledFrom
-  way-none d at e = rw (e, fresh) (refl, tt)
+-- place k, which the code reads from all places
+module _ (k : ℕ) (t : Own) (body : ℕ) (xs : List ℕ) (ps : List Place) (d : Place) (within : k < length ps) (f : Machine) (fresh : f ≡ freshAt k) where
+  read : (q : Place) → (q ≡ fedAs k t body xs (getD ps k d)) × KnownFed k t xs (getD ps k d) → (q ≡ fedAs k t body xs (placeAt k ps)) × KnownFed k t xs (placeAt k ps)
+  read q h = subst (λ (p : Place). (q ≡ fedAs k t body xs p) × KnownFed k t xs p) (place-read ps k d within) h
 
-  pub way-live : (z : ℤ) → p .score ≡ Live z → (r : Ran) (q : Place) → r ≡ ranAt k t (p .machine) xs → Bounded (perByte * length xs) r → Weighed (p .machine) (t .weights) r → q ≡ settledOf f z body (length xs) r → (q ≡ fedAs k t body xs p) × KnownFed k t xs p
+  none-fed : (p : Place) (r : Reason) (at : ℕ) → p .score ≡ None r at → (place f (p .score) ≡ fedAs k t body xs p) × KnownFed k t xs p
   unfolding settledFrom
-  way-live z e r q a h v i =
+  none-fed p r at e = rw (e, fresh) (refl, tt)
+
+  pub way-none : (r : Reason) (at : ℕ) → getD ps k d .score ≡ None r at → (q : Place) → q ≡ place f (getD ps k d .score) → (q ≡ fedAs k t body xs (placeAt k ps)) × KnownFed k t xs (placeAt k ps)
+  way-none r at e q i = let h = none-fed (getD ps k d) r at e in read q (i ∙ h .0, h .1)
+
+  live-fed : (p : Place) (z : ℤ) → p .score ≡ Live z → (r : Ran) (q : Place) → r ≡ ranAt k t (p .machine) xs → Bounded (perByte * length xs) r → Weighed (p .machine) (t .weights) r → q ≡ settledOf f z body (length xs) r → (q ≡ fedAs k t body xs p) × KnownFed k t xs p
+  unfolding settledFrom
+  live-fed p z e r q a h v i =
       rw e (i ∙ (ap (λ (x : Machine). settledOf x z body (length xs) r) fresh ∙ ap (settledOf (freshAt k) z body (length xs)) a), record { small = rw a at h; weighed = rw a at v })
 
+  pub way-live : (z : ℤ) → getD ps k d .score ≡ Live z → (r : Ran) (q : Place) → r ≡ ranAt k t (getD ps k d .machine) xs → Bounded (perByte * length xs) r → Weighed (getD ps k d .machine) (t .weights) r → q ≡ settledOf f z body (length xs) r → (q ≡ fedAs k t body xs (placeAt k ps)) × KnownFed k t xs (placeAt k ps)
+  way-live z e r q a h v i = read q (live-fed (getD ps k d) z e r q a h v i)
+
 module _ (body : ℕ) (p : Place) (f : Machine) (fresh : f ≡ freshOf (p .machine)) where
-  pub end-way-none : (d : Reason) (at : ℕ) → p .score ≡ None d at → place f (p .score) ≡ decoderEnded body p
+  pub end-way-none : (d : Reason) (at : ℕ) → p .score ≡ None d at → (q : Place) → q ≡ place f (p .score) → q ≡ decoderEnded body p
   unfolding settledFrom
-  end-way-none d at e = rw (e, fresh)
+  end-way-none d at e q i = i ∙ rw (e, fresh)
 
   pub end-way-live : (z : ℤ) → p .score ≡ Live z → (r : Ran) (q : Place) → r ≡ decodedEnd (p .machine) → q ≡ settledOf f z body 0 r → q ≡ decoderEnded body p
   unfolding settledFrom
   end-way-live z e r q a i = rw e (i ∙ (ap (λ (x : Machine). settledOf x z body 0 r) fresh ∙ ap (settledOf (freshOf (p .machine)) z body 0) a))
+
+-- place k, which the code reads from all places
+pub ended-read : (body : ℕ) (ps : List Place) (d : Place) (k : ℕ) → k < length ps → (q : Place) → q ≡ decoderEnded body (getD ps k d) → q ≡ decoderEnded body (placeAt k ps)
+ended-read body ps d k h q e = subst (λ (p : Place). q ≡ decoderEnded body p) (place-read ps k d h) e
 
 -- ---- all places, as the code has fed them one by one
 abbrev FedPairs : Tables → ℕ → List ℕ → ℕ → List Place → List Place → Type 0

@@ -10,7 +10,7 @@ use lib.IntN.{ℤ, pos, negsuc, natAbs}
 use lib.ListN.{length, getD, drop, length-drop}
 use borrow.Author.Tests.{eqb-true, eq-eqb, ne-eqb, leb-true, leb-false, le-leb, lt-leb}
 use Rattle.laws.specs.Carried.{carried, Holds}
-use Rattle.laws.specs.Each.{eachB, each-true, true-each, each-turn, each-stop, each-done}
+use Rattle.laws.specs.Each.{each-true, true-each}
 use Rattle.laws.specs.Limit.{limit}
 use Rattle.laws.specs.Run.{Outcome, none, live, plus, run, endsAt, WhenNone, none-plus, none-more}
 use Rattle.laws.specs.declared.Reason.{Reason}
@@ -39,7 +39,6 @@ use Rattle.kinds.specs.declared.machine.Machine.{Machine}
 use Rattle.kinds.specs.declared.machine.Machine.the-variants.{Utf8, Iso2022Jp, EucKr, Big5, Caseless, Logical, Visual, ArabicFrench}
 use Rattle.places.specs.Order.{spacedOf, droppedB, ScoredFor, ZeroOrNone, FedOr, PlaceFor, SlateFor, scoredB, zeroOrNoneB, unfedB, placeB, slateB}
 use Rattle.places.specs.Place.{placeAs, byteAt, endAt, endFrom, endOf}
-use Rattle.places.specs.Steps.{scoreSize, begunB, restB, reachBy}
 use Rattle.places.specs.declared.place.Place.{Place}
 use Rattle.places.specs.declared.place.Score.{Score}
 use Rattle.places.specs.declared.place.Score.the-variants.{None, Live}
@@ -114,21 +113,21 @@ fresh-then n reach m true e =
     rw (true-sound n reach m h)
 fresh-then n reach m false e = and-false (soundB n reach m)
 
--- the reach, by the bytes with the closing space
-pub reach-by : (m : Machine) (n spaced : ℕ) (closed : Bool) → spaced ≡ spacedOf n closed → reachBy m n spaced ≡ reachOf m n closed
+-- the reach of a machine that takes the closing space, and of one that does not
+pub reach-space : (m : Machine) (n : ℕ) (closed : Bool) → takesSpace m ≡ true → reachOf m n closed ≡ spacedOf n closed
 unfolding reachOf
-reach-by m n spaced closed e = rw e (at closed (takesSpace m))
-  where
-    at : (c t : Bool) → cond t (spacedOf n c) n ≡ cond (c && t) (n + 1) n
-    at true true = refl
-    at true false = refl
-    at false true = refl
-    at false false = refl
+reach-space m n true e = rw e
+reach-space m n false e = refl
+
+pub reach-plain : (m : Machine) (n : ℕ) (closed : Bool) → takesSpace m ≡ false → reachOf m n closed ≡ n
+unfolding reachOf
+reach-plain m n true e = rw e
+reach-plain m n false e = refl
 
 module _ (n body : ℕ) (closed fed : Bool) (k : ℕ) (p : Place) where
-  pub place-other : (placeNumber (p .machine) ≡ k → ⊥) → false ≡ placeB n body closed fed k p
+  pub place-other : eqb (placeNumber (p .machine)) k ≡ false → false ≡ placeB n body closed fed k p
   unfolding placeB
-  place-other h = rw (ne-eqb _ _ h)
+  place-other h = rw h
 
   module _ (e : placeNumber (p .machine) ≡ k) where
     -- without a score: fresh, with a reason and a place that it can have, and nothing else is asked
@@ -162,21 +161,20 @@ module _ (n body : ℕ) (closed fed : Bool) (k : ℕ) (p : Place) where
       unfolding placeB scoredB
       place-fed u = rw (eq-eqb _ _ e, q, u, and-true) (and-comm (leb (natAbs s) (perByte * reachOf (p .machine) n closed)) (soundB n (reachOf (p .machine) n closed) (p .machine)))
 
-    -- as the code goes: begun, or not
-    module _ (r : Bool) where
-      pub place-begun : begunB fed (p .score) ≡ true → r ≡ (leb (scoreSize (p .score)) (perByte * reachOf (p .machine) n closed) && soundB n (reachOf (p .machine) n closed) (p .machine)) → r ≡ placeB n body closed fed k p
-      place-begun b i = by (p .score) refl b i
-        where
-          by : (c : Score) → p .score ≡ c → begunB fed c ≡ true → r ≡ (leb (scoreSize c) (perByte * reachOf (p .machine) n closed) && soundB n (reachOf (p .machine) n closed) (p .machine)) → r ≡ placeB n body closed fed k p
-          by (None d at) q b i = absurd (no-truth b)
-          by (Live s) q b i = i ∙ place-fed s q b
+  -- as the code goes, by the kind of its machine and the kind's reach
+  module _ (m : Machine) (e : p .machine ≡ m) (kind : placeNumber m ≡ k) (r : Bool) where
+    number : placeNumber (p .machine) ≡ k
+    number = rw e kind
 
-      pub place-unbegun : begunB fed (p .score) ≡ false → r ≡ (restB body closed fed k (p .score) && freshB (p .machine)) → r ≡ placeB n body closed fed k p
-      place-unbegun b i = by (p .score) refl b i
-        where
-          by : (c : Score) → p .score ≡ c → begunB fed c ≡ false → r ≡ (restB body closed fed k c && freshB (p .machine)) → r ≡ placeB n body closed fed k p
-          by (None d at) q b i = i ∙ (and-comm (droppedB body closed fed k d at) (freshB (p .machine)) ∙ place-none d at q)
-          by (Live s) q b i = i ∙ place-unfed s q b
+    pub way-none : (d : Reason) (at : ℕ) → p .score ≡ None d at → r ≡ (droppedB body closed fed k d at && freshB m) → r ≡ placeB n body closed fed k p
+    way-none d at q i = i ∙ (and-comm (droppedB body closed fed k d at) (freshB m) ∙ (ap (λ (x : Machine). freshB x && droppedB body closed fed k d at) (sym e) ∙ place-none number d at q))
+
+    pub way-unfed : (s : ℤ) → p .score ≡ Live s → fed ≡ false → r ≡ (eqb (natAbs s) 0 && freshB m) → r ≡ placeB n body closed fed k p
+    way-unfed s q u i = i ∙ (ap (λ (x : Machine). eqb (natAbs s) 0 && freshB x) (sym e) ∙ place-unfed number s q u)
+
+    pub way-fed : (reach : ℕ) → reachOf m n closed ≡ reach → (s : ℤ) → p .score ≡ Live s → fed ≡ true → r ≡ (leb (natAbs s) (perByte * reach) && soundB n reach m) → r ≡ placeB n body closed fed k p
+    way-fed reach far s q u i =
+        i ∙ (ap (λ (x : ℕ). leb (natAbs s) (perByte * x) && soundB n x m) (sym far) ∙ (ap (λ (x : Machine). leb (natAbs s) (perByte * reachOf x n closed) && soundB n (reachOf x n closed) x) (sym e) ∙ place-fed number s q u))
 
 pub spaced-most : (n most : ℕ) (closed : Bool) → n ≤ most → spacedOf n closed ≤ most + 1
 spaced-most n most true h = omega (arith, h)
@@ -193,40 +191,6 @@ within-space at body = by (leb at (body + 1)) refl
     by : (t : Bool) → leb at (body + 1) ≡ t → leb (at - 1) body ≡ t
     by true e = le-leb (at - 1) body (omega (arith, leb-true at (body + 1) e))
     by false e = lt-leb (at - 1) body (omega (arith, leb-false at (body + 1) e))
-
--- ---- for the loop of the test
-module _ (n body : ℕ) (closed fed : Bool) (ps : List Place) where
-  abbrev test : ℕ → Place → Bool
-  test = placeB n body closed fed
-
-  pub slate-long : limit < n → false ≡ slateB n body closed fed ps
-  unfolding slateB
-  slate-long h = rw (lt-leb _ _ h)
-
-  -- the first i places passed
-  pub record Passed (i : ℕ) : Type 0 where
-    pub within : i ≤ 8
-    pub eight : length ps ≡ 8
-    pub most : n ≤ limit
-    pub rest : eachB test i (drop i ps) ≡ eachB test 0 ps
-
-  pub passed-start : length ps ≡ 8 → n ≤ limit → Passed 0
-  passed-start e h = record { within = omega arith; eight = e; most = h; rest = refl }
-
-  module _ (i : ℕ) (d : Place) (o : Passed i) (h : i < 8) where
-    inside : i < length ps
-    inside = rw (o .eight) h
-
-    pub passed-stop : placeB n body closed fed i (getD ps i d) ≡ false → false ≡ slateB n body closed fed ps
-    unfolding slateB
-    passed-stop e = rw (le-leb _ _ (o .most)) (each-stop test ps d i inside e ∙ o .rest)
-
-    pub passed-next : placeB n body closed fed i (getD ps i d) ≡ true → Passed (i + 1)
-    passed-next e = record { within = omega arith; eight = o .eight; most = o .most; rest = each-turn test ps d i inside e ∙ o .rest }
-
-  pub passed-done : (i : ℕ) → Passed i → 8 ≤ i → true ≡ slateB n body closed fed ps
-  unfolding slateB
-  passed-done i o h = rw (le-leb _ _ (o .most)) (each-done test i (drop i ps) (rw (length-drop, o .eight) (omega arith)) ∙ o .rest)
 
 -- ---- more bytes, and a close without any
 last-two : (a b c : Bool) → (a && (b && c)) ≡ true → (b ≡ true) × (c ≡ true)
@@ -288,9 +252,6 @@ reach-more m n k true h = pick (takesSpace m)
     pick true = omega arith
     pick false = h
 reach-more m n k false h = h
-
-pub reach-most : (m : Machine) (n spaced most : ℕ) → n ≤ most → spaced ≤ most → reachBy m n spaced ≤ most
-reach-most m n spaced most h i = either (λ (k : ℕ). k ≤ most) (takesSpace m) (λ e. i) (λ e. h)
 
 -- a live outcome's score is at most c in size
 abbrev pub BoundedOut : ℕ → Outcome Machine → Type 0

@@ -4,6 +4,7 @@ use mathlib.Core.List.{List, [], _∷_}
 use Prim.Native.Nat.{ℕ, suc, _/_, _%_}
 use lib.Dec.{eqb}
 use lib.IntN.{pos}
+use lib.ListN.{getD}
 use Rattle.laws.specs.declared.Reason.the-variants.{NotInSlate}
 use Rattle.big5.specs.Scoring as big5
 use Rattle.euckr.specs.Scoring as euckr
@@ -20,6 +21,14 @@ use Rattle.places.specs.Place.{place, feedOf}
 use Rattle.places.specs.declared.place.Place.{Place}
 use Rattle.places.specs.declared.place.Score.{Score}
 use Rattle.places.specs.declared.place.Score.the-variants.{None, Live}
+
+-- ---- one of them
+-- the place of a number; where there is none, one without a score
+abbrev pub nowhere : Place
+nowhere = place (Utf8 utf-8.fresh) (None NotInSlate 0)
+
+abbrev pub placeAt : ℕ → List Place → Place
+placeAt k ps = getD ps k nowhere
 
 -- ---- a start
 -- a place takes part where the bit that is worth `unit` is set; its score starts at 0

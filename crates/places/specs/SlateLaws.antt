@@ -5,12 +5,12 @@ use mathlib.Core.List.{List, [], _∷_}
 use Prim.Native.Nat.{ℕ, zero, suc, _+_, _*_, _/_, _%_, _≤_, _<_}
 use native.Mathlib.Nat.{le-of-suc-le-suc, not-suc-le-zero, zero-add, add-zero}
 use native.Mathlib.Omega.{arith}
-use lib.Dec.{eqb}
+use lib.Dec.{eqb, leb}
 use lib.IntN.{pos}
 use lib.ListN.{length, getD, drop}
 use lib.Seq.{drop-cons, drop-length}
 use borrow.Author.Tests.{le-leb, lt-leb}
-use Rattle.laws.specs.Each.{EachFrom, each-weaken, each-get}
+use Rattle.laws.specs.Each.{eachB, EachFrom, true-each, each-weaken, each-get}
 use Rattle.laws.specs.Limit.{limit}
 use Rattle.laws.specs.declared.Reason.the-variants.{NotInSlate}
 use Rattle.weights.specs.Weights.{perByte}
@@ -32,16 +32,22 @@ use Rattle.tables.specs.Tables.{Tables, Sized, sizedB}
 use Rattle.tables.specs.TablesLaws.{sized-true, true-sized}
 use Rattle.kinds.specs.declared.machine.Machine.{Machine}
 use Rattle.kinds.specs.declared.machine.Machine.the-variants.{Utf8, Iso2022Jp, EucKr, Big5, Caseless, Logical, Visual, ArabicFrench}
-use Rattle.places.specs.Order.{droppedB, ScoredFor, ZeroOrNone, FedOr, PlaceFor, SlateFor}
+use Rattle.places.specs.Order.{droppedB, ScoredFor, ZeroOrNone, FedOr, PlaceFor, SlateFor, placeB, slateB}
 use Rattle.places.specs.Kept.{Kept, AllKept}
 use Rattle.places.specs.OrderLaws.{dropped-unfed, scored-more}
 use Rattle.places.specs.Place.{place, feedOf}
 use Rattle.places.specs.Steps.{BoundedScore, FitPart}
 use Rattle.places.specs.PlaceLaws.{feed-nil}
-use Rattle.places.specs.Slate.{startOf, feedFrom, feedAll}
+use Rattle.places.specs.Slate.{placeAt, startOf, feedFrom, feedAll}
 use Rattle.places.specs.declared.place.Place.{Place}
 use Rattle.places.specs.declared.place.Score.{Score}
 use Rattle.places.specs.declared.place.Score.the-variants.{None, Live}
+
+-- the place that is read, whatever would be read where there is none
+pub place-read : (ps : List Place) (k : ℕ) (d : Place) → k < length ps → getD ps k d ≡ placeAt k ps
+place-read [] k d h = absurd (not-suc-le-zero h)
+place-read (p ∷ ps) zero d h = refl
+place-read (p ∷ ps) (suc k) d h = place-read ps k d (le-of-suc-le-suc h)
 
 -- ---- a start is in order
 taken-scored : (k : ℕ) (m : Machine) (t : Bool) → m ≡ freshOf m → ScoredFor 0 0 false false k m (cond t (Live (pos 0)) (None NotInSlate 0))
@@ -164,3 +170,30 @@ module _ (ps : List Place) (d : Place) where
     pub eight : ps ≡ listed
     eight =
         next 0 (omega arith) (next 1 (omega arith) (next 2 (omega arith) (next 3 (omega arith) (next 4 (omega arith) (next 5 (omega arith) (next 6 (omega arith) (next 7 (omega arith) (rw e at (drop-length ps)))))))))
+
+-- ---- the test of all places, each asked by itself
+-- an element that does not pass
+each-lacks : {A : Type 0} (test : ℕ → A → Bool) (k : ℕ) (xs : List A) (d : A) (i : ℕ) → i < length xs → test (k + i) (getD xs i d) ≡ false → eachB test k xs ≡ false
+unfolding eachB
+each-lacks test k [] d i h e = absurd (not-suc-le-zero h)
+each-lacks test k (x ∷ xs) d zero h e = rw (rw add-zero at e)
+each-lacks test k (x ∷ xs) d (suc i) h e =
+    let q : k + suc i ≡ suc k + i = omega arith in
+    rw (each-lacks test (suc k) xs d i (le-of-suc-le-suc h) (rw q at e)) (and-false (test k x))
+
+module _ (n body : ℕ) (closed fed : Bool) (ps : List Place) where
+  abbrev test : ℕ → Place → Bool
+  test = placeB n body closed fed
+
+  pub slate-long : limit < n → false ≡ slateB n body closed fed ps
+  unfolding slateB
+  slate-long h = rw (lt-leb _ _ h)
+
+  -- one that can't stand so
+  pub slate-stop : (i : ℕ) (d : Place) → i < length ps → test i (getD ps i d) ≡ false → false ≡ slateB n body closed fed ps
+  unfolding slateB
+  slate-stop i d h e = sym (rw (each-lacks test 0 ps d i h (rw zero-add e)) (and-false (leb n limit)))
+
+  pub slate-all : n ≤ limit → (d : Place) → length ps ≡ 8 → EachFrom (λ (i : ℕ) (p : Place). test i p ≡ true) 0 (listed ps d) → true ≡ slateB n body closed fed ps
+  unfolding slateB
+  slate-all h d e f = rw (le-leb _ _ h) (sym (true-each test (λ (i : ℕ) (p : Place). test i p ≡ true) (λ (i : ℕ) (p : Place) q. q) 0 ps (subst (λ (l : List Place). EachFrom (λ (i : ℕ) (p : Place). test i p ≡ true) 0 l) (sym (eight ps d e)) f)))

@@ -1,10 +1,11 @@
 // Which places a state in order can hold.
 ghost use mathlib.Core.Path.{_≡_};
-ghost use Prim.Native.Nat.{_+_, _≤_};
+ghost use Prim.Native.Nat.{_+_, _*_, _≤_};
+ghost use lib.Dec.{eqb, leb};
+ghost use lib.IntN.{natAbs};
 ghost use Rattle.laws.specs.Limit.{limit};
-ghost use lib.Dec.{leb};
+ghost use Rattle.weights.specs.Weights.{perByte};
 ghost use Rattle.places.specs.Order.{spacedOf, droppedB, placeB, slateB};
-ghost use Rattle.places.specs.Steps.{scoreSize, begunB, restB, reachBy};
 use crate::place;
 use crate::place::Place;
 use crate::place::Score;
@@ -16,16 +17,6 @@ use records::sound;
 
 // What one byte adds to a score at most.
 const PER_BYTE: u64 = 10_737_418_240;
-
-// The bytes that a machine has seen at most, of a stream with its closing space or without.
-fn reach(machine: Machine, bytes: u64, spaced: u64) -> u64
-    ensures { λ r. ⌜ r ≡ reachBy machine bytes spaced ⌝ }
-{
-    if sound::takes_space(machine) {
-        return spaced;
-    }
-    bytes
-}
 
 // How many bytes there are with the closing space, where the stream is closed.
 fn with_space(bytes: u64, closed: bool) -> u64
@@ -62,41 +53,113 @@ fn is_dropped(reason: Reason, at: u64, k: usize, body: u64, closed: bool, fed: b
     }
 }
 
-// How far a score is from zero; none is at zero.
-fn size_of(score: Score) -> u64
-    ensures { λ r. ⌜ r ≡ scoreSize score ⌝ }
+// Whether so many bytes can make a score of this size.
+fn is_small(n: i64, bytes: u64) -> bool
+    requires { ⌜ bytes ≤ limit + 1 ⌝ }
+    ensures { λ r. ⌜ r ≡ leb (natAbs n) (perByte * bytes) ⌝ }
 {
+    signed::size(n) <= PER_BYTE * bytes
+}
+
+// Whether it is 0.
+fn is_zero(n: i64) -> bool
+    ensures { λ r. ⌜ r ≡ eqb (natAbs n) 0 ⌝ }
+{
+    signed::size(n) == 0
+}
+
+// Whether a place can stand where its kind does, after so many bytes, with the closing space so many, fed already or not: a
+// function for each kind. A fresh record is one that no bound excludes.
+fn is_in_order_utf8(place: Place, bytes: u64, body: u64, closed: bool, fed: bool) -> bool
+    requires { ⌜ bytes ≤ limit ⌝ }
+    ensures { λ r. ⌜ r ≡ placeB bytes body closed fed 0 place ⌝ }
+{
+    let machine = place.machine;
+    let score = place.score;
+    let Machine::Utf8(m) = machine else {
+        return false;
+    };
     match score {
-        Score::None(_, _) => 0,
-        Score::Live(n) => signed::size(n),
+        Score::None(reason, at) => {
+            is_dropped(reason, at, 0, body, closed, fed) && fresh::is_fresh_utf8(m)
+        }
+        Score::Live(n) => {
+            if fed {
+                return is_small(n, bytes) && m.is_sound();
+            }
+            is_zero(n) && fresh::is_fresh_utf8(m)
+        }
     }
 }
 
-// Whether a machine with this score has begun to score.
-fn is_begun(score: Score, fed: bool) -> bool
-    ensures { λ r. ⌜ r ≡ begunB fed score ⌝ }
+fn is_in_order_iso2022jp(place: Place, bytes: u64, body: u64, closed: bool, fed: bool) -> bool
+    requires { ⌜ bytes ≤ limit ⌝ }
+    ensures { λ r. ⌜ r ≡ placeB bytes body closed fed 1 place ⌝ }
 {
+    let machine = place.machine;
+    let score = place.score;
+    let Machine::Iso2022Jp(m) = machine else {
+        return false;
+    };
     match score {
-        Score::None(_, _) => false,
-        Score::Live(_) => fed,
+        Score::None(reason, at) => {
+            is_dropped(reason, at, 1, body, closed, fed) && fresh::is_fresh_iso2022jp(m)
+        }
+        Score::Live(n) => {
+            if fed {
+                return is_small(n, bytes) && m.is_sound();
+            }
+            is_zero(n) && fresh::is_fresh_iso2022jp(m)
+        }
     }
 }
 
-// Whether a fresh machine at place k can have this score.
-fn is_resting(score: Score, k: usize, body: u64, closed: bool, fed: bool) -> bool
-    ensures { λ r. ⌜ r ≡ restB body closed fed k score ⌝ }
+fn is_in_order_euckr(place: Place, bytes: u64, body: u64, closed: bool, fed: bool) -> bool
+    requires { ⌜ bytes ≤ limit ⌝ }
+    ensures { λ r. ⌜ r ≡ placeB bytes body closed fed 2 place ⌝ }
 {
+    let machine = place.machine;
+    let score = place.score;
+    let Machine::EucKr(m) = machine else {
+        return false;
+    };
     match score {
-        Score::None(reason, at) => is_dropped(reason, at, k, body, closed, fed),
-        Score::Live(n) => signed::size(n) == 0,
+        Score::None(reason, at) => {
+            is_dropped(reason, at, 2, body, closed, fed) && fresh::is_fresh_euckr(m)
+        }
+        Score::Live(n) => {
+            if fed {
+                return is_small(n, bytes) && m.is_sound_for(bytes);
+            }
+            is_zero(n) && fresh::is_fresh_euckr(m)
+        }
     }
 }
 
-// Whether it can stand at place k: after so many bytes, with the closing space so many, fed already or not. A fresh record is
-// one that no bound excludes.
-fn is_in_order(
+fn is_in_order_big5(place: Place, bytes: u64, body: u64, closed: bool, fed: bool) -> bool
+    requires { ⌜ bytes ≤ limit ⌝ }
+    ensures { λ r. ⌜ r ≡ placeB bytes body closed fed 3 place ⌝ }
+{
+    let machine = place.machine;
+    let score = place.score;
+    let Machine::Big5(m) = machine else {
+        return false;
+    };
+    match score {
+        Score::None(reason, at) => {
+            is_dropped(reason, at, 3, body, closed, fed) && fresh::is_fresh_big5(m)
+        }
+        Score::Live(n) => {
+            if fed {
+                return is_small(n, bytes) && m.is_sound_for(bytes);
+            }
+            is_zero(n) && fresh::is_fresh_big5(m)
+        }
+    }
+}
+
+fn is_in_order_caseless(
     place: Place,
-    k: usize,
     bytes: u64,
     spaced: u64,
     body: u64,
@@ -105,21 +168,118 @@ fn is_in_order(
 ) -> bool
     requires { ⌜ bytes ≤ limit ⌝ }
     requires { ⌜ spaced ≡ spacedOf bytes closed ⌝ }
-    ensures { λ r. ⌜ r ≡ placeB bytes body closed fed k place ⌝ }
+    ensures { λ r. ⌜ r ≡ placeB bytes body closed fed 4 place ⌝ }
 {
     let machine = place.machine;
     let score = place.score;
-    if machine.place_number() != k {
+    let Machine::Caseless(m) = machine else {
         return false;
+    };
+    match score {
+        Score::None(reason, at) => {
+            is_dropped(reason, at, 4, body, closed, fed) && fresh::is_fresh_caseless(m)
+        }
+        Score::Live(n) => {
+            if fed {
+                return is_small(n, spaced) && sound::is_sound_caseless(m, bytes, spaced);
+            }
+            is_zero(n) && fresh::is_fresh_caseless(m)
+        }
     }
-    if is_begun(score, fed) {
-        let most = reach(machine, bytes, spaced);
-        return size_of(score) <= PER_BYTE * most && sound::is_sound(machine, bytes, most);
-    }
-    is_resting(score, k, body, closed, fed) && fresh::is_fresh(machine)
 }
 
-// Whether all places can stand so: after so many bytes, of which `body` came from the end of the head on.
+fn is_in_order_logical(
+    place: Place,
+    bytes: u64,
+    spaced: u64,
+    body: u64,
+    closed: bool,
+    fed: bool,
+) -> bool
+    requires { ⌜ bytes ≤ limit ⌝ }
+    requires { ⌜ spaced ≡ spacedOf bytes closed ⌝ }
+    ensures { λ r. ⌜ r ≡ placeB bytes body closed fed 5 place ⌝ }
+{
+    let machine = place.machine;
+    let score = place.score;
+    let Machine::Logical(m) = machine else {
+        return false;
+    };
+    match score {
+        Score::None(reason, at) => {
+            is_dropped(reason, at, 5, body, closed, fed) && fresh::is_fresh_logical(m)
+        }
+        Score::Live(n) => {
+            if fed {
+                return is_small(n, spaced) && sound::is_sound_logical(m, bytes, spaced);
+            }
+            is_zero(n) && fresh::is_fresh_logical(m)
+        }
+    }
+}
+
+fn is_in_order_visual(
+    place: Place,
+    bytes: u64,
+    spaced: u64,
+    body: u64,
+    closed: bool,
+    fed: bool,
+) -> bool
+    requires { ⌜ bytes ≤ limit ⌝ }
+    requires { ⌜ spaced ≡ spacedOf bytes closed ⌝ }
+    ensures { λ r. ⌜ r ≡ placeB bytes body closed fed 6 place ⌝ }
+{
+    let machine = place.machine;
+    let score = place.score;
+    let Machine::Visual(m) = machine else {
+        return false;
+    };
+    match score {
+        Score::None(reason, at) => {
+            is_dropped(reason, at, 6, body, closed, fed) && fresh::is_fresh_visual(m)
+        }
+        Score::Live(n) => {
+            if fed {
+                return is_small(n, spaced) && sound::is_sound_visual(m, bytes, spaced);
+            }
+            is_zero(n) && fresh::is_fresh_visual(m)
+        }
+    }
+}
+
+fn is_in_order_arabic_french(
+    place: Place,
+    bytes: u64,
+    spaced: u64,
+    body: u64,
+    closed: bool,
+    fed: bool,
+) -> bool
+    requires { ⌜ bytes ≤ limit ⌝ }
+    requires { ⌜ spaced ≡ spacedOf bytes closed ⌝ }
+    ensures { λ r. ⌜ r ≡ placeB bytes body closed fed 7 place ⌝ }
+{
+    let machine = place.machine;
+    let score = place.score;
+    let Machine::ArabicFrench(m) = machine else {
+        return false;
+    };
+    match score {
+        Score::None(reason, at) => {
+            is_dropped(reason, at, 7, body, closed, fed) && fresh::is_fresh_arabic_french(m)
+        }
+        Score::Live(n) => {
+            if fed {
+                return is_small(n, spaced) && sound::is_sound_arabic_french(m, bytes, spaced);
+            }
+            is_zero(n) && fresh::is_fresh_arabic_french(m)
+        }
+    }
+}
+
+// Whether all places can stand so: after so many bytes, of which `body` came from the end of the head on. Each is asked by itself,
+// from the last to the first, and not in a loop: for a loop the compiler would copy the places (DECISIONS, 73).
 pub fn are_in_order(places: Slate, bytes: u64, body: u64, closed: bool, fed: bool) -> bool
     ensures { λ r. ⌜ r ≡ slateB bytes body closed fed places ⌝ }
 {
@@ -127,14 +287,29 @@ pub fn are_in_order(places: Slate, bytes: u64, body: u64, closed: bool, fed: boo
         return false;
     }
     let spaced = with_space(bytes, closed);
-    let mut k = 0;
-    while k < 8 {
-        let place = places[k];
-        if is_in_order(place, k, bytes, spaced, body, closed, fed) {
-            k += 1;
-        } else {
-            return false;
-        }
+    if !is_in_order_arabic_french(places[7], bytes, spaced, body, closed, fed) {
+        return false;
+    }
+    if !is_in_order_visual(places[6], bytes, spaced, body, closed, fed) {
+        return false;
+    }
+    if !is_in_order_logical(places[5], bytes, spaced, body, closed, fed) {
+        return false;
+    }
+    if !is_in_order_caseless(places[4], bytes, spaced, body, closed, fed) {
+        return false;
+    }
+    if !is_in_order_big5(places[3], bytes, body, closed, fed) {
+        return false;
+    }
+    if !is_in_order_euckr(places[2], bytes, body, closed, fed) {
+        return false;
+    }
+    if !is_in_order_iso2022jp(places[1], bytes, body, closed, fed) {
+        return false;
+    }
+    if !is_in_order_utf8(places[0], bytes, body, closed, fed) {
+        return false;
     }
     true
 }

@@ -1,14 +1,17 @@
 // One place, and what a part of a chunk and the end of the stream make of it.
 //
-// There is a function for each kind, so that a call goes to one machine's loop and to nothing else. A place that can't be fed,
-// since it has no score, or a machine of another kind or one that is not fit, is left fresh and without a score; in a state
-// in order only a place without a score can't, and it is fresh already and keeps its reason.
+// There is a function for each kind, so that a call goes to one machine's loop and to nothing else. It takes all places and reads
+// its own, so that the compiler leaves them where they are (DECISIONS, 73). A place that can't be fed, since it has no score, or a
+// machine of another kind or one that is not fit, is left fresh and without a score; in a state in order only a place without a
+// score can't, and it is fresh already and keeps its reason.
 //
 // `body` is how many bytes from the end of the head on have come, those of the part among them.
 ghost use mathlib.Core.Path.{_≡_};
 ghost use mathlib.Core.List.{[]};
 ghost use Prim.Native.Nat.{_-_};
 ghost use Rattle.tables.specs.Own.{own};
+ghost use Rattle.places.specs.Place.{place};
+ghost use Rattle.places.specs.Slate.{placeAt};
 ghost use Rattle.places.specs.Fed.{settledOf, fedAs, decoderEnded, KnownFed};
 use arabic_french::ArabicFrench;
 use big5::Big5;
@@ -68,34 +71,47 @@ fn settled(fresh: Machine, before: i64, ran: Ran, body: u64, bytes: usize) -> Pl
     }
 }
 
-pub(crate) fn feed_utf8(place: Place, part: &[u8], body: u64) -> Place
-    ensures { λ r. ⌜ r ≡ fedAs 0 (own [] [] [] [] [] []) body (now (part .entry)) place ⌝ }
-    ensures { λ r. ⌜ KnownFed 0 (own [] [] [] [] [] []) (now (part .entry)) place ⌝ }
+// Without a score: the fresh machine, and the score as it was. It is made anew, so that the compiler copies no byte between the
+// fields of the enum.
+fn passed(fresh: Machine, score: Score) -> Place
+    ensures { λ r. ⌜ r ≡ place fresh score ⌝ }
 {
+    match score {
+        Score::None(reason, at) => Place {
+            machine: fresh,
+            score: Score::None(reason, at),
+        },
+        Score::Live(n) => Place {
+            machine: fresh,
+            score: Score::Live(n),
+        },
+    }
+}
+
+pub(crate) fn feed_utf8(places: Slate, part: &[u8], body: u64) -> Place
+    ensures { λ r. ⌜ r ≡ fedAs 0 (own [] [] [] [] [] []) body (now (part .entry)) (placeAt 0 places) ⌝ }
+    ensures { λ r. ⌜ KnownFed 0 (own [] [] [] [] [] []) (now (part .entry)) (placeAt 0 places) ⌝ }
+{
+    let place = places[0];
     let machine = place.machine;
     let score = place.score;
     let fresh = Machine::Utf8(Utf8::fresh());
     let Score::Live(before) = score else {
-        return Place {
-            machine: fresh,
-            score,
-        };
+        return passed(fresh, score);
     };
     settled(fresh, before, machine.run_utf8(part), body, part.len())
 }
 
-pub(crate) fn feed_iso2022jp(place: Place, part: &[u8], body: u64, index: &[u32]) -> Place
-    ensures { λ r. ⌜ r ≡ fedAs 1 (own [] [] [] (now (index .entry)) [] []) body (now (part .entry)) place ⌝ }
-    ensures { λ r. ⌜ KnownFed 1 (own [] [] [] (now (index .entry)) [] []) (now (part .entry)) place ⌝ }
+pub(crate) fn feed_iso2022jp(places: Slate, part: &[u8], body: u64, index: &[u32]) -> Place
+    ensures { λ r. ⌜ r ≡ fedAs 1 (own [] [] [] (now (index .entry)) [] []) body (now (part .entry)) (placeAt 1 places) ⌝ }
+    ensures { λ r. ⌜ KnownFed 1 (own [] [] [] (now (index .entry)) [] []) (now (part .entry)) (placeAt 1 places) ⌝ }
 {
+    let place = places[1];
     let machine = place.machine;
     let score = place.score;
     let fresh = Machine::Iso2022Jp(Iso2022Jp::fresh());
     let Score::Live(before) = score else {
-        return Place {
-            machine: fresh,
-            score,
-        };
+        return passed(fresh, score);
     };
     settled(
         fresh,
@@ -107,24 +123,22 @@ pub(crate) fn feed_iso2022jp(place: Place, part: &[u8], body: u64, index: &[u32]
 }
 
 pub(crate) fn feed_euckr(
-    place: Place,
+    places: Slate,
     part: &[u8],
     body: u64,
     index: &[u32],
     extras: &[i16],
     weights: &[i32],
 ) -> Place
-    ensures { λ r. ⌜ r ≡ fedAs 2 (own [] [] [] (now (index .entry)) (now (extras .entry)) (now (weights .entry))) body (now (part .entry)) place ⌝ }
-    ensures { λ r. ⌜ KnownFed 2 (own [] [] [] (now (index .entry)) (now (extras .entry)) (now (weights .entry))) (now (part .entry)) place ⌝ }
+    ensures { λ r. ⌜ r ≡ fedAs 2 (own [] [] [] (now (index .entry)) (now (extras .entry)) (now (weights .entry))) body (now (part .entry)) (placeAt 2 places) ⌝ }
+    ensures { λ r. ⌜ KnownFed 2 (own [] [] [] (now (index .entry)) (now (extras .entry)) (now (weights .entry))) (now (part .entry)) (placeAt 2 places) ⌝ }
 {
+    let place = places[2];
     let machine = place.machine;
     let score = place.score;
     let fresh = Machine::EucKr(EucKr::fresh());
     let Score::Live(before) = score else {
-        return Place {
-            machine: fresh,
-            score,
-        };
+        return passed(fresh, score);
     };
     settled(
         fresh,
@@ -136,23 +150,21 @@ pub(crate) fn feed_euckr(
 }
 
 pub(crate) fn feed_big5(
-    place: Place,
+    places: Slate,
     part: &[u8],
     body: u64,
     index: &[u32],
     weights: &[i32],
 ) -> Place
-    ensures { λ r. ⌜ r ≡ fedAs 3 (own [] [] [] (now (index .entry)) [] (now (weights .entry))) body (now (part .entry)) place ⌝ }
-    ensures { λ r. ⌜ KnownFed 3 (own [] [] [] (now (index .entry)) [] (now (weights .entry))) (now (part .entry)) place ⌝ }
+    ensures { λ r. ⌜ r ≡ fedAs 3 (own [] [] [] (now (index .entry)) [] (now (weights .entry))) body (now (part .entry)) (placeAt 3 places) ⌝ }
+    ensures { λ r. ⌜ KnownFed 3 (own [] [] [] (now (index .entry)) [] (now (weights .entry))) (now (part .entry)) (placeAt 3 places) ⌝ }
 {
+    let place = places[3];
     let machine = place.machine;
     let score = place.score;
     let fresh = Machine::Big5(Big5::fresh());
     let Score::Live(before) = score else {
-        return Place {
-            machine: fresh,
-            score,
-        };
+        return passed(fresh, score);
     };
     settled(
         fresh,
@@ -164,7 +176,7 @@ pub(crate) fn feed_big5(
 }
 
 pub(crate) fn feed_caseless(
-    place: Place,
+    places: Slate,
     part: &[u8],
     body: u64,
     classes: &[u8],
@@ -172,17 +184,15 @@ pub(crate) fn feed_caseless(
     pairs: &[i16],
     weights: &[i32],
 ) -> Place
-    ensures { λ r. ⌜ r ≡ fedAs 4 (own (now (classes .entry)) (now (marks .entry)) (now (pairs .entry)) [] [] (now (weights .entry))) body (now (part .entry)) place ⌝ }
-    ensures { λ r. ⌜ KnownFed 4 (own (now (classes .entry)) (now (marks .entry)) (now (pairs .entry)) [] [] (now (weights .entry))) (now (part .entry)) place ⌝ }
+    ensures { λ r. ⌜ r ≡ fedAs 4 (own (now (classes .entry)) (now (marks .entry)) (now (pairs .entry)) [] [] (now (weights .entry))) body (now (part .entry)) (placeAt 4 places) ⌝ }
+    ensures { λ r. ⌜ KnownFed 4 (own (now (classes .entry)) (now (marks .entry)) (now (pairs .entry)) [] [] (now (weights .entry))) (now (part .entry)) (placeAt 4 places) ⌝ }
 {
+    let place = places[4];
     let machine = place.machine;
     let score = place.score;
     let fresh = Machine::Caseless(Caseless::fresh());
     let Score::Live(before) = score else {
-        return Place {
-            machine: fresh,
-            score,
-        };
+        return passed(fresh, score);
     };
     settled(
         fresh,
@@ -193,26 +203,25 @@ pub(crate) fn feed_caseless(
     )
 }
 
+// `body` comes last: where it does not, the compiler lacks a register in this loop.
 pub(crate) fn feed_logical(
-    place: Place,
+    places: Slate,
     part: &[u8],
-    body: u64,
     classes: &[u8],
     marks: &[u8],
     pairs: &[i16],
     weights: &[i32],
+    body: u64,
 ) -> Place
-    ensures { λ r. ⌜ r ≡ fedAs 5 (own (now (classes .entry)) (now (marks .entry)) (now (pairs .entry)) [] [] (now (weights .entry))) body (now (part .entry)) place ⌝ }
-    ensures { λ r. ⌜ KnownFed 5 (own (now (classes .entry)) (now (marks .entry)) (now (pairs .entry)) [] [] (now (weights .entry))) (now (part .entry)) place ⌝ }
+    ensures { λ r. ⌜ r ≡ fedAs 5 (own (now (classes .entry)) (now (marks .entry)) (now (pairs .entry)) [] [] (now (weights .entry))) body (now (part .entry)) (placeAt 5 places) ⌝ }
+    ensures { λ r. ⌜ KnownFed 5 (own (now (classes .entry)) (now (marks .entry)) (now (pairs .entry)) [] [] (now (weights .entry))) (now (part .entry)) (placeAt 5 places) ⌝ }
 {
+    let place = places[5];
     let machine = place.machine;
     let score = place.score;
     let fresh = Machine::Logical(Logical::fresh());
     let Score::Live(before) = score else {
-        return Place {
-            machine: fresh,
-            score,
-        };
+        return passed(fresh, score);
     };
     settled(
         fresh,
@@ -224,7 +233,7 @@ pub(crate) fn feed_logical(
 }
 
 pub(crate) fn feed_visual(
-    place: Place,
+    places: Slate,
     part: &[u8],
     body: u64,
     classes: &[u8],
@@ -232,17 +241,15 @@ pub(crate) fn feed_visual(
     pairs: &[i16],
     weights: &[i32],
 ) -> Place
-    ensures { λ r. ⌜ r ≡ fedAs 6 (own (now (classes .entry)) (now (marks .entry)) (now (pairs .entry)) [] [] (now (weights .entry))) body (now (part .entry)) place ⌝ }
-    ensures { λ r. ⌜ KnownFed 6 (own (now (classes .entry)) (now (marks .entry)) (now (pairs .entry)) [] [] (now (weights .entry))) (now (part .entry)) place ⌝ }
+    ensures { λ r. ⌜ r ≡ fedAs 6 (own (now (classes .entry)) (now (marks .entry)) (now (pairs .entry)) [] [] (now (weights .entry))) body (now (part .entry)) (placeAt 6 places) ⌝ }
+    ensures { λ r. ⌜ KnownFed 6 (own (now (classes .entry)) (now (marks .entry)) (now (pairs .entry)) [] [] (now (weights .entry))) (now (part .entry)) (placeAt 6 places) ⌝ }
 {
+    let place = places[6];
     let machine = place.machine;
     let score = place.score;
     let fresh = Machine::Visual(Visual::fresh());
     let Score::Live(before) = score else {
-        return Place {
-            machine: fresh,
-            score,
-        };
+        return passed(fresh, score);
     };
     settled(
         fresh,
@@ -254,7 +261,7 @@ pub(crate) fn feed_visual(
 }
 
 pub(crate) fn feed_arabic_french(
-    place: Place,
+    places: Slate,
     part: &[u8],
     body: u64,
     classes: &[u8],
@@ -262,17 +269,15 @@ pub(crate) fn feed_arabic_french(
     pairs: &[i16],
     weights: &[i32],
 ) -> Place
-    ensures { λ r. ⌜ r ≡ fedAs 7 (own (now (classes .entry)) (now (marks .entry)) (now (pairs .entry)) [] [] (now (weights .entry))) body (now (part .entry)) place ⌝ }
-    ensures { λ r. ⌜ KnownFed 7 (own (now (classes .entry)) (now (marks .entry)) (now (pairs .entry)) [] [] (now (weights .entry))) (now (part .entry)) place ⌝ }
+    ensures { λ r. ⌜ r ≡ fedAs 7 (own (now (classes .entry)) (now (marks .entry)) (now (pairs .entry)) [] [] (now (weights .entry))) body (now (part .entry)) (placeAt 7 places) ⌝ }
+    ensures { λ r. ⌜ KnownFed 7 (own (now (classes .entry)) (now (marks .entry)) (now (pairs .entry)) [] [] (now (weights .entry))) (now (part .entry)) (placeAt 7 places) ⌝ }
 {
+    let place = places[7];
     let machine = place.machine;
     let score = place.score;
     let fresh = Machine::ArabicFrench(ArabicFrench::fresh());
     let Score::Live(before) = score else {
-        return Place {
-            machine: fresh,
-            score,
-        };
+        return passed(fresh, score);
     };
     settled(
         fresh,
@@ -291,10 +296,7 @@ pub(crate) fn end_decoder(place: Place, body: u64) -> Place
     let score = place.score;
     let fresh = machine.fresh();
     let Score::Live(before) = score else {
-        return Place {
-            machine: fresh,
-            score,
-        };
+        return passed(fresh, score);
     };
     settled(fresh, before, machine.close_decoder(), body, 0)
 }

@@ -86,14 +86,14 @@ fn feed_each(
     ensures { λ r. ⌜ AllKnown (tables (now (classes4 .entry)) (now (marks4 .entry)) (now (pairs4 .entry)) (now (classes5 .entry)) (now (marks5 .entry)) (now (pairs5 .entry)) (now (classes6 .entry)) (now (marks6 .entry)) (now (pairs6 .entry)) (now (classes7 .entry)) (now (marks7 .entry)) (now (pairs7 .entry)) (now (big5 .entry)) (now (euckr .entry)) (now (jis .entry)) (now (extras .entry)) (now (weights .entry))) (now (part .entry)) places ⌝ }
 {
     [
-        place::feed_utf8(places[0], part, body),
-        place::feed_iso2022jp(places[1], part, body, jis),
-        place::feed_euckr(places[2], part, body, euckr, extras, weights),
-        place::feed_big5(places[3], part, body, big5, weights),
-        place::feed_caseless(places[4], part, body, classes4, marks4, pairs4, weights),
-        place::feed_logical(places[5], part, body, classes5, marks5, pairs5, weights),
-        place::feed_visual(places[6], part, body, classes6, marks6, pairs6, weights),
-        place::feed_arabic_french(places[7], part, body, classes7, marks7, pairs7, weights),
+        place::feed_utf8(places, part, body),
+        place::feed_iso2022jp(places, part, body, jis),
+        place::feed_euckr(places, part, body, euckr, extras, weights),
+        place::feed_big5(places, part, body, big5, weights),
+        place::feed_caseless(places, part, body, classes4, marks4, pairs4, weights),
+        place::feed_logical(places, part, classes5, marks5, pairs5, weights, body),
+        place::feed_visual(places, part, body, classes6, marks6, pairs6, weights),
+        place::feed_arabic_french(places, part, body, classes7, marks7, pairs7, weights),
     ]
 }
 
@@ -126,65 +126,25 @@ fn feed_both(
     ensures { λ r. ⌜ AllKnown (tables (now (classes4 .entry)) (now (marks4 .entry)) (now (pairs4 .entry)) (now (classes5 .entry)) (now (marks5 .entry)) (now (pairs5 .entry)) (now (classes6 .entry)) (now (marks6 .entry)) (now (pairs6 .entry)) (now (classes7 .entry)) (now (marks7 .entry)) (now (pairs7 .entry)) (now (big5 .entry)) (now (euckr .entry)) (now (jis .entry)) (now (extras .entry)) (now (weights .entry))) (now (before .entry)) places ⌝ }
     ensures { λ r. ⌜ AllKnown (tables (now (classes4 .entry)) (now (marks4 .entry)) (now (pairs4 .entry)) (now (classes5 .entry)) (now (marks5 .entry)) (now (pairs5 .entry)) (now (classes6 .entry)) (now (marks6 .entry)) (now (pairs6 .entry)) (now (classes7 .entry)) (now (marks7 .entry)) (now (pairs7 .entry)) (now (big5 .entry)) (now (euckr .entry)) (now (jis .entry)) (now (extras .entry)) (now (weights .entry))) (now (part .entry)) (fedEach (tables (now (classes4 .entry)) (now (marks4 .entry)) (now (pairs4 .entry)) (now (classes5 .entry)) (now (marks5 .entry)) (now (pairs5 .entry)) (now (classes6 .entry)) (now (marks6 .entry)) (now (pairs6 .entry)) (now (classes7 .entry)) (now (marks7 .entry)) (now (pairs7 .entry)) (now (big5 .entry)) (now (euckr .entry)) (now (jis .entry)) (now (extras .entry)) (now (weights .entry))) 0 (now (before .entry)) places) ⌝ }
 {
+    let after: Slate = [
+        place::feed_utf8(places, before, 0),
+        place::feed_iso2022jp(places, before, 0, jis),
+        place::feed_euckr(places, before, 0, euckr, extras, weights),
+        place::feed_big5(places, before, 0, big5, weights),
+        place::feed_caseless(places, before, 0, classes4, marks4, pairs4, weights),
+        place::feed_logical(places, before, classes5, marks5, pairs5, weights, 0),
+        place::feed_visual(places, before, 0, classes6, marks6, pairs6, weights),
+        place::feed_arabic_french(places, before, 0, classes7, marks7, pairs7, weights),
+    ];
     [
-        place::feed_utf8(place::feed_utf8(places[0], before, 0), part, body),
-        place::feed_iso2022jp(
-            place::feed_iso2022jp(places[1], before, 0, jis),
-            part,
-            body,
-            jis,
-        ),
-        place::feed_euckr(
-            place::feed_euckr(places[2], before, 0, euckr, extras, weights),
-            part,
-            body,
-            euckr,
-            extras,
-            weights,
-        ),
-        place::feed_big5(
-            place::feed_big5(places[3], before, 0, big5, weights),
-            part,
-            body,
-            big5,
-            weights,
-        ),
-        place::feed_caseless(
-            place::feed_caseless(places[4], before, 0, classes4, marks4, pairs4, weights),
-            part,
-            body,
-            classes4,
-            marks4,
-            pairs4,
-            weights,
-        ),
-        place::feed_logical(
-            place::feed_logical(places[5], before, 0, classes5, marks5, pairs5, weights),
-            part,
-            body,
-            classes5,
-            marks5,
-            pairs5,
-            weights,
-        ),
-        place::feed_visual(
-            place::feed_visual(places[6], before, 0, classes6, marks6, pairs6, weights),
-            part,
-            body,
-            classes6,
-            marks6,
-            pairs6,
-            weights,
-        ),
-        place::feed_arabic_french(
-            place::feed_arabic_french(places[7], before, 0, classes7, marks7, pairs7, weights),
-            part,
-            body,
-            classes7,
-            marks7,
-            pairs7,
-            weights,
-        ),
+        place::feed_utf8(after, part, body),
+        place::feed_iso2022jp(after, part, body, jis),
+        place::feed_euckr(after, part, body, euckr, extras, weights),
+        place::feed_big5(after, part, body, big5, weights),
+        place::feed_caseless(after, part, body, classes4, marks4, pairs4, weights),
+        place::feed_logical(after, part, classes5, marks5, pairs5, weights, body),
+        place::feed_visual(after, part, body, classes6, marks6, pairs6, weights),
+        place::feed_arabic_french(after, part, body, classes7, marks7, pairs7, weights),
     ]
 }
 
@@ -219,10 +179,10 @@ fn end_each(
         place::end_decoder(places[1], body),
         place::end_decoder(places[2], body),
         place::end_decoder(places[3], body),
-        place::feed_caseless(places[4], b" ", past, classes4, marks4, pairs4, weights),
-        place::feed_logical(places[5], b" ", past, classes5, marks5, pairs5, weights),
-        place::feed_visual(places[6], b" ", past, classes6, marks6, pairs6, weights),
-        place::feed_arabic_french(places[7], b" ", past, classes7, marks7, pairs7, weights),
+        place::feed_caseless(places, b" ", past, classes4, marks4, pairs4, weights),
+        place::feed_logical(places, b" ", classes5, marks5, pairs5, weights, past),
+        place::feed_visual(places, b" ", past, classes6, marks6, pairs6, weights),
+        place::feed_arabic_french(places, b" ", past, classes7, marks7, pairs7, weights),
     ]
 }
 

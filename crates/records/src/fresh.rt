@@ -1,6 +1,6 @@
-// Whether a machine is the fresh one of its kind.
+// Whether a machine is the fresh one of its kind, by a function for each.
 ghost use mathlib.Core.Path.{_≡_};
-ghost use Rattle.records.specs.Fresh.{asciiState, asciiOut, otherKorean, otherCj, spaceCase, freshUtf8B, freshIso2022JpB, emptyB, freshEucKrB, freshBig5B, freshCommonB, freshCaselessB, freshLogicalB, freshVisualB, freshArabicFrenchB, freshB};
+ghost use Rattle.records.specs.Fresh.{asciiState, asciiOut, otherKorean, otherCj, spaceCase, freshUtf8B, freshIso2022JpB, emptyB, freshEucKrB, freshBig5B, freshCommonB, freshCaselessB, freshLogicalB, freshVisualB, freshArabicFrenchB};
 use arabic_french::ArabicFrench;
 use arabic_french::LatinCaseState;
 use big5::Big5;
@@ -11,13 +11,12 @@ use euckr::LatinKorean;
 use iso2022jp::DecoderState;
 use iso2022jp::Iso2022Jp;
 use iso2022jp::OutputState;
-use kinds::machine::Machine;
 use logical::Logical;
 use pairs::Held;
 use utf8::Utf8;
 use visual::Visual;
 
-fn is_fresh_utf8(m: Utf8) -> bool
+pub fn is_fresh_utf8(m: Utf8) -> bool
     ensures { λ r. ⌜ r ≡ freshUtf8B m ⌝ }
 {
     m.need == 0 && (m.lo == Utf8::LOWER && m.hi == Utf8::UPPER)
@@ -48,7 +47,7 @@ fn is_ascii_out(out: OutputState) -> bool
     }
 }
 
-fn is_fresh_iso2022jp(m: Iso2022Jp) -> bool
+pub fn is_fresh_iso2022jp(m: Iso2022Jp) -> bool
     ensures { λ r. ⌜ r ≡ freshIso2022JpB m ⌝ }
 {
     let state = m.state;
@@ -76,7 +75,7 @@ fn is_other_korean(prev: LatinKorean) -> bool
     }
 }
 
-fn is_fresh_euckr(m: EucKr) -> bool
+pub fn is_fresh_euckr(m: EucKr) -> bool
     ensures { λ r. ⌜ r ≡ freshEucKrB m ⌝ }
 {
     let prev = m.prev;
@@ -97,7 +96,7 @@ fn is_other_cj(prev: LatinCj) -> bool
     }
 }
 
-fn is_fresh_big5(m: Big5) -> bool
+pub fn is_fresh_big5(m: Big5) -> bool
     ensures { λ r. ⌜ r ≡ freshBig5B m ⌝ }
 {
     let prev = m.prev;
@@ -112,20 +111,20 @@ fn is_fresh_common(prev: u8, prev_ascii: bool, word: u64, longest: u64) -> bool
     prev == 0 && (prev_ascii && (word == 0 && longest == 0))
 }
 
-fn is_fresh_caseless(m: Caseless) -> bool
+pub fn is_fresh_caseless(m: Caseless) -> bool
     ensures { λ r. ⌜ r ≡ freshCaselessB m ⌝ }
 {
     is_fresh_common(m.prev, m.prev_ascii, m.current_word_len, m.longest_word)
 }
 
-fn is_fresh_logical(m: Logical) -> bool
+pub fn is_fresh_logical(m: Logical) -> bool
     ensures { λ r. ⌜ r ≡ freshLogicalB m ⌝ }
 {
     m.plausible_punctuation == 0
         && is_fresh_common(m.prev, m.prev_ascii, m.current_word_len, m.longest_word)
 }
 
-fn is_fresh_visual(m: Visual) -> bool
+pub fn is_fresh_visual(m: Visual) -> bool
     ensures { λ r. ⌜ r ≡ freshVisualB m ⌝ }
 {
     m.plausible_punctuation == 0
@@ -144,25 +143,10 @@ fn is_space_case(case_state: LatinCaseState) -> bool
     }
 }
 
-fn is_fresh_arabic_french(m: ArabicFrench) -> bool
+pub fn is_fresh_arabic_french(m: ArabicFrench) -> bool
     ensures { λ r. ⌜ r ≡ freshArabicFrenchB m ⌝ }
 {
     let case_state = m.case_state;
     is_space_case(case_state)
         && is_fresh_common(m.prev, m.prev_ascii, m.current_word_len, m.longest_word)
-}
-
-pub fn is_fresh(machine: Machine) -> bool
-    ensures { λ r. ⌜ r ≡ freshB machine ⌝ }
-{
-    match machine {
-        Machine::Utf8(m) => is_fresh_utf8(m),
-        Machine::Iso2022Jp(m) => is_fresh_iso2022jp(m),
-        Machine::EucKr(m) => is_fresh_euckr(m),
-        Machine::Big5(m) => is_fresh_big5(m),
-        Machine::Caseless(m) => is_fresh_caseless(m),
-        Machine::Logical(m) => is_fresh_logical(m),
-        Machine::Visual(m) => is_fresh_visual(m),
-        Machine::ArabicFrench(m) => is_fresh_arabic_french(m),
-    }
 }

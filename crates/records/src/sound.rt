@@ -1,44 +1,33 @@
-// What a machine can hold after so many bytes.
+// What the four single-byte machines can hold after so many bytes. `reach` has the closing space besides: it can lengthen a word
+// and, in visual order, count punctuation, and nothing else. The decoders' machines say it themselves.
 ghost use mathlib.Core.Path.{_≡_};
-ghost use Rattle.kinds.specs.Sound.{takesSpace, soundLogicalB, soundB};
-use kinds::machine::Machine;
+ghost use Rattle.kinds.specs.Sound.{soundB};
+ghost use Rattle.kinds.specs.declared.machine.Machine.the-variants as machine;
+use arabic_french::ArabicFrench;
+use caseless::Caseless;
 use logical::Logical;
+use visual::Visual;
 
-// Whether the end of the stream is a space to it, one byte more.
-pub fn takes_space(machine: Machine) -> bool
-    ensures { λ r. ⌜ r ≡ takesSpace machine ⌝ }
+pub fn is_sound_caseless(m: Caseless, bytes: u64, reach: u64) -> bool
+    ensures { λ r. ⌜ r ≡ soundB bytes reach (machine.Caseless m) ⌝ }
 {
-    match machine {
-        Machine::Utf8(_) => false,
-        Machine::Iso2022Jp(_) => false,
-        Machine::EucKr(_) => false,
-        Machine::Big5(_) => false,
-        Machine::Caseless(_) => true,
-        Machine::Logical(_) => true,
-        Machine::Visual(_) => true,
-        Machine::ArabicFrench(_) => true,
-    }
+    m.longest_word <= bytes && m.is_sound_for(reach)
 }
 
-fn is_sound_logical(m: Logical, bytes: u64, reach: u64) -> bool
-    ensures { λ r. ⌜ r ≡ soundLogicalB bytes reach m ⌝ }
+pub fn is_sound_logical(m: Logical, bytes: u64, reach: u64) -> bool
+    ensures { λ r. ⌜ r ≡ soundB bytes reach (machine.Logical m) ⌝ }
 {
     m.plausible_punctuation <= bytes && (m.longest_word <= bytes && m.is_sound_for(reach))
 }
 
-// Whether no bound of so many bytes excludes it. `reach` has the closing space besides: it can lengthen a word and, in visual
-// order, count punctuation, and nothing else.
-pub fn is_sound(machine: Machine, bytes: u64, reach: u64) -> bool
-    ensures { λ r. ⌜ r ≡ soundB bytes reach machine ⌝ }
+pub fn is_sound_visual(m: Visual, bytes: u64, reach: u64) -> bool
+    ensures { λ r. ⌜ r ≡ soundB bytes reach (machine.Visual m) ⌝ }
 {
-    match machine {
-        Machine::Utf8(m) => m.is_sound(),
-        Machine::Iso2022Jp(m) => m.is_sound(),
-        Machine::EucKr(m) => m.is_sound_for(bytes),
-        Machine::Big5(m) => m.is_sound_for(bytes),
-        Machine::Caseless(m) => m.longest_word <= bytes && m.is_sound_for(reach),
-        Machine::Logical(m) => is_sound_logical(m, bytes, reach),
-        Machine::Visual(m) => m.longest_word <= bytes && m.is_sound_for(reach),
-        Machine::ArabicFrench(m) => m.longest_word <= bytes && m.is_sound_for(reach),
-    }
+    m.longest_word <= bytes && m.is_sound_for(reach)
+}
+
+pub fn is_sound_arabic_french(m: ArabicFrench, bytes: u64, reach: u64) -> bool
+    ensures { λ r. ⌜ r ≡ soundB bytes reach (machine.ArabicFrench m) ⌝ }
+{
+    m.longest_word <= bytes && m.is_sound_for(reach)
 }

@@ -3,12 +3,9 @@ use mathlib.Core.Bool.{Bool, true, false, cond, _&&_, _||_}
 use mathlib.Core.List.{List}
 use Prim.Native.Nat.{ℕ}
 use lib.Dec.{eqb, ltb}
-use lib.ListN.{getD}
-use Rattle.laws.specs.declared.Reason.the-variants.{NotInSlate}
-use Rattle.utf8.specs.Utf8 as utf-8
 use Rattle.kinds.specs.declared.machine.Machine.{Machine}
 use Rattle.kinds.specs.declared.machine.Machine.the-variants.{Utf8, Iso2022Jp, EucKr, Big5, Caseless, Logical, Visual, ArabicFrench}
-use Rattle.places.specs.Place.{place}
+use Rattle.places.specs.Slate.{placeAt}
 use Rattle.places.specs.declared.place.Place.{Place}
 use Rattle.places.specs.declared.place.Score.{Score}
 use Rattle.places.specs.declared.place.Score.the-variants.{None, Live}
@@ -19,13 +16,6 @@ logical = 5
 
 abbrev pub visual : ℕ
 visual = 6
-
--- the place of a number; where there is none, one without a score
-abbrev pub nowhere : Place
-nowhere = place (Utf8 utf-8.fresh) (None NotInSlate 0)
-
-abbrev pub placeAt : ℕ → List Place → Place
-placeAt k ps = getD ps k nowhere
 
 abbrev pub hasScore : Score → Bool
 hasScore (None d at) = false

@@ -1,5 +1,5 @@
--- Between the two orders of Hebrew: the definition names the place that is said without tests, and no other is. The place that the code
--- reads. Assumes nothing.
+-- Between the two orders of Hebrew: the definition names the place that is said without tests, and no other is. The places that the
+-- code reads. Assumes nothing.
 use mathlib.Core.Path.{_≡_, refl, sym, _∙_}
 use mathlib.Core.Bool.{Bool, true, false, cond, _&&_, _||_}
 use mathlib.Core.List.{List, [], _∷_}
@@ -14,14 +14,10 @@ use Rattle.laws.specs.Tests.{both, either}
 use Rattle.places.specs.declared.place.Place.{Place}
 use Rattle.places.specs.declared.place.Score.{Score}
 use Rattle.places.specs.declared.place.Score.the-variants as score
-use Rattle.state.specs.Hebrew.{logical, visual, placeAt, hasScore, plausiblePunctuation, isHebrew, contested, punctuated, namedFrom, namedOf}
+use Rattle.places.specs.Slate.{placeAt}
+use Rattle.places.specs.SlateLaws.{place-read}
+use Rattle.state.specs.Hebrew.{logical, visual, hasScore, plausiblePunctuation, isHebrew, contested, punctuated, namedFrom, namedOf}
 use Rattle.state.specs.Leads.{Dropped, HasScore, Contested, counted, Punctuated, Named}
-
--- the place that is read, whatever would be read where there is none
-place-read : (ps : List Place) (k : ℕ) (d : Place) → k < length ps → getD ps k d ≡ placeAt k ps
-place-read [] k d h = absurd (not-suc-le-zero h)
-place-read (p ∷ ps) zero d h = refl
-place-read (p ∷ ps) (suc k) d h = place-read ps k d (le-of-suc-le-suc h)
 
 -- ---- the two ways through the code
 module _ (ps : List Place) (k : ℕ) (d e : Place) (eight : length ps ≡ 8) where

@@ -12,7 +12,8 @@ use lib.Signed.{ltZ}
 use Rattle.places.specs.declared.place.Place.{Place}
 use Rattle.places.specs.declared.place.Score.{Score}
 use Rattle.places.specs.declared.place.Score.the-variants as score
-use Rattle.state.specs.Hebrew.{logical, visual, placeAt, plausiblePunctuation}
+use Rattle.places.specs.Slate.{placeAt}
+use Rattle.state.specs.Hebrew.{logical, visual, plausiblePunctuation}
 use Rattle.state.specs.State.{triggered}
 use Rattle.state.specs.declared.leader.Leader.{Leader}
 use Rattle.state.specs.declared.leader.Leader.the-variants.{Ascii, None, Place as At}

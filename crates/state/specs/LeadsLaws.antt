@@ -15,7 +15,8 @@ use borrow.Author.Tests.{lt-ltb, le-ltb, ltb-true, ltb-false}
 use Rattle.places.specs.declared.place.Place.{Place}
 use Rattle.places.specs.declared.place.Score.{Score}
 use Rattle.places.specs.declared.place.Score.the-variants as score
-use Rattle.state.specs.Hebrew.{nowhere, namedOf}
+use Rattle.places.specs.Slate.{nowhere}
+use Rattle.state.specs.Hebrew.{namedOf}
 use Rattle.state.specs.HebrewLaws.{named-is, named-only}
 use Rattle.state.specs.State.{triggered}
 use Rattle.state.specs.Leader.{againstBest, betterOf, bestFrom, leaderAs, leaderOf}

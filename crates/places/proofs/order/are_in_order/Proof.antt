@@ -1,69 +1,152 @@
--- `are_in_order` meets its contract: the first places passed. The measure is how many are left.
-use Prim.Native.Nat.{_-_}
+-- `are_in_order` meets its contract.
+use mathlib.Core.Path.{_≡_, sym, _∙_}
 use native.Mathlib.Omega.{arith}
-use mathlib.Core.Path.{sym, _∙_}
+use lib.ListN.{length}
 use borrow.Author.Needs.{needs}
-use Rattle.places.specs.OrderLaws.{slate-long, Passed, passed-start, passed-stop, passed-next, passed-done}
+use Rattle.laws.specs.Tests.{off, on}
+use Rattle.places.specs.SlateLaws.{slate-long, slate-stop, slate-all}
 use Rattle.places.proofs.order.are_in_order.Statement.{statement}
 use Rattle.places.proofs.order.are_in_order.Tie as tie
 
-abbrev Inv-loop : tie.InvT-loop
-Inv-loop bytes body closed fed places spaced k₀ k = Passed bytes body closed fed places k
+long : (s : tie.Start) → length (s .args .t1) ≡ 8
+long s = search needs
 
-abbrev μ-loop : tie.MeasureT-loop
-μ-loop bytes body closed fed places spaced k₀ k = 8 - k
+returns : tie.Need-returns
+returns c = let a = c .before .args in slate-long (a .bytes) (a .body) (a .closed) (a .fed) (a .t1) (c .if1 .taken)
 
-returns : tie.Need-returns Inv-loop μ-loop
-returns c = let g = c .before in let a = g .args in slate-long (a .bytes) (a .body) (a .closed) (a .fed) (g .args .t1) (c .if1 .taken)
+with-space-requires : tie.Need-with-space-requires
+with-space-requires c κs = search needs
 
-with-space-requires : tie.Need-with-space-requires Inv-loop μ-loop
-with-space-requires c κs = omega (arith, c .if1 .left)
+array-copy-out-is-in-order-arabic-french : tie.Need-array-copy-out-is-in-order-arabic-french
+array-copy-out-is-in-order-arabic-french c = search needs
 
-loop-holds : tie.Need-loop-holds Inv-loop μ-loop
-loop-holds c = let g = c .before .before in let a = g .args in passed-start (a .bytes) (a .body) (a .closed) (a .fed) (g .args .t1) (search needs) (omega (arith, c .before .if1 .left))
+is-in-order-arabic-french-requires : tie.Need-is-in-order-arabic-french-requires
+is-in-order-arabic-french-requires c κs = search needs
 
-mul-place : tie.Need-mul-place Inv-loop μ-loop
-mul-place c = omega arith
+returns-2 : tie.Need-returns-2
+returns-2 c =
+    let s = c .before .before .before .before .before in
+    let a = s .args in
+    slate-stop (a .bytes) (a .body) (a .closed) (a .fed) (a .t1) 7 _ (rw (long s) (omega arith)) (sym (c .before .is-in-order-arabic-french .ensures) ∙ off (c .before .is-in-order-arabic-french .result) (c .if2 .taken))
 
-array-copy-out-place : tie.Need-array-copy-out-place Inv-loop μ-loop
-array-copy-out-place c = omega arith
+array-copy-out-is-in-order-visual : tie.Need-array-copy-out-is-in-order-visual
+array-copy-out-is-in-order-visual c = search needs
 
-is-in-order-requires : tie.Need-is-in-order-requires Inv-loop μ-loop
-is-in-order-requires c κs =
-    let l = c .before .before .loop in
-    let w = c .before .before .before in
-    let a = w .before .before .args in
-    (l .inv .most, w .with-space .ensures)
+is-in-order-visual-requires : tie.Need-is-in-order-visual-requires
+is-in-order-visual-requires c κs = search needs
 
-add-k : tie.Need-add-k Inv-loop μ-loop
-add-k c = omega arith
+returns-3 : tie.Need-returns-3
+returns-3 c =
+    let s = c .before .before .before .before .before .before .before .before in
+    let a = s .args in
+    slate-stop (a .bytes) (a .body) (a .closed) (a .fed) (a .t1) 6 _ (rw (long s) (omega arith)) (sym (c .before .is-in-order-visual .ensures) ∙ off (c .before .is-in-order-visual .result) (c .if3 .taken))
 
-loop-less : tie.Need-loop-less Inv-loop μ-loop
-loop-less c = omega arith
+array-copy-out-is-in-order-logical : tie.Need-array-copy-out-is-in-order-logical
+array-copy-out-is-in-order-logical c = search needs
 
-loop-again : tie.Need-loop-again Inv-loop μ-loop
-loop-again c = let w = c .before .before .before .before .before in let a = w .before .before .args in let l = c .before .before .before .before .loop in passed-next (a .bytes) (a .body) (a .closed) (a .fed) (a .t1) (l .k) _ (l .inv) (c .before .before .before .loop-test .taken) (sym (c .before .is-in-order .ensures) ∙ c .if2 .taken)
+is-in-order-logical-requires : tie.Need-is-in-order-logical-requires
+is-in-order-logical-requires c κs = search needs
 
-returns-2 : tie.Need-returns-2 Inv-loop μ-loop
-returns-2 c = let w = c .before .before .before .before .before in let a = w .before .before .args in let l = c .before .before .before .before .loop in passed-stop (a .bytes) (a .body) (a .closed) (a .fed) (a .t1) (l .k) _ (l .inv) (c .before .before .before .loop-test .taken) (sym (c .before .is-in-order .ensures) ∙ c .if2 .left)
+returns-4 : tie.Need-returns-4
+returns-4 c =
+    let s = c .before .before .before .before .before .before .before .before .before .before .before in
+    let a = s .args in
+    slate-stop (a .bytes) (a .body) (a .closed) (a .fed) (a .t1) 5 _ (rw (long s) (omega arith)) (sym (c .before .is-in-order-logical .ensures) ∙ off (c .before .is-in-order-logical .result) (c .if4 .taken))
 
-returns-3 : tie.Need-returns-3 Inv-loop μ-loop
-returns-3 c = let a = c .before .before .before .before .args in let l = c .before .loop in passed-done (a .bytes) (a .body) (a .closed) (a .fed) (a .t1) (l .k) (l .inv) (omega (arith, c .loop-test .left))
+array-copy-out-is-in-order-caseless : tie.Need-array-copy-out-is-in-order-caseless
+array-copy-out-is-in-order-caseless c = search needs
+
+is-in-order-caseless-requires : tie.Need-is-in-order-caseless-requires
+is-in-order-caseless-requires c κs = search needs
+
+returns-5 : tie.Need-returns-5
+returns-5 c =
+    let s = c .before .before .before .before .before .before .before .before .before .before .before .before .before .before in
+    let a = s .args in
+    slate-stop (a .bytes) (a .body) (a .closed) (a .fed) (a .t1) 4 _ (rw (long s) (omega arith)) (sym (c .before .is-in-order-caseless .ensures) ∙ off (c .before .is-in-order-caseless .result) (c .if5 .taken))
+
+array-copy-out-is-in-order-big5 : tie.Need-array-copy-out-is-in-order-big5
+array-copy-out-is-in-order-big5 c = search needs
+
+is-in-order-big5-requires : tie.Need-is-in-order-big5-requires
+is-in-order-big5-requires c κs = search needs
+
+returns-6 : tie.Need-returns-6
+returns-6 c =
+    let s = c .before .before .before .before .before .before .before .before .before .before .before .before .before .before .before .before .before in
+    let a = s .args in
+    slate-stop (a .bytes) (a .body) (a .closed) (a .fed) (a .t1) 3 _ (rw (long s) (omega arith)) (sym (c .before .is-in-order-big5 .ensures) ∙ off (c .before .is-in-order-big5 .result) (c .if6 .taken))
+
+array-copy-out-is-in-order-euckr : tie.Need-array-copy-out-is-in-order-euckr
+array-copy-out-is-in-order-euckr c = search needs
+
+is-in-order-euckr-requires : tie.Need-is-in-order-euckr-requires
+is-in-order-euckr-requires c κs = search needs
+
+returns-7 : tie.Need-returns-7
+returns-7 c =
+    let s = c .before .before .before .before .before .before .before .before .before .before .before .before .before .before .before .before .before .before .before .before in
+    let a = s .args in
+    slate-stop (a .bytes) (a .body) (a .closed) (a .fed) (a .t1) 2 _ (rw (long s) (omega arith)) (sym (c .before .is-in-order-euckr .ensures) ∙ off (c .before .is-in-order-euckr .result) (c .if7 .taken))
+
+array-copy-out-is-in-order-iso2022jp : tie.Need-array-copy-out-is-in-order-iso2022jp
+array-copy-out-is-in-order-iso2022jp c = search needs
+
+is-in-order-iso2022jp-requires : tie.Need-is-in-order-iso2022jp-requires
+is-in-order-iso2022jp-requires c κs = search needs
+
+returns-8 : tie.Need-returns-8
+returns-8 c =
+    let s = c .before .before .before .before .before .before .before .before .before .before .before .before .before .before .before .before .before .before .before .before .before .before .before in
+    let a = s .args in
+    slate-stop (a .bytes) (a .body) (a .closed) (a .fed) (a .t1) 1 _ (rw (long s) (omega arith)) (sym (c .before .is-in-order-iso2022jp .ensures) ∙ off (c .before .is-in-order-iso2022jp .result) (c .if8 .taken))
+
+array-copy-out-is-in-order-utf8 : tie.Need-array-copy-out-is-in-order-utf8
+array-copy-out-is-in-order-utf8 c = search needs
+
+is-in-order-utf8-requires : tie.Need-is-in-order-utf8-requires
+is-in-order-utf8-requires c κs = search needs
+
+returns-9 : tie.Need-returns-9
+returns-9 c =
+    let s = c .before .before .before .before .before .before .before .before .before .before .before .before .before .before .before .before .before .before .before .before .before .before .before .before .before .before in
+    let a = s .args in
+    slate-stop (a .bytes) (a .body) (a .closed) (a .fed) (a .t1) 0 _ (rw (long s) (omega arith)) (sym (c .before .is-in-order-utf8 .ensures) ∙ off (c .before .is-in-order-utf8 .result) (c .if9 .taken))
+
+returns-10 : tie.Need-returns-10
+returns-10 c =
+    let s = c .before .before .before .before .before .before .before .before .before .before .before .before .before .before .before .before .before .before .before .before .before .before .before .before .before .before in
+    let a = s .args in
+    slate-all (a .bytes) (a .body) (a .closed) (a .fed) (a .t1) (omega (arith, c .before .before .before .before .before .before .before .before .before .before .before .before .before .before .before .before .before .before .before .before .before .before .before .before .before .if1 .left)) _ (long s) (sym (c .before .is-in-order-utf8 .ensures) ∙ on (c .before .is-in-order-utf8 .result) (c .if9 .left), (sym (c .before .before .before .before .is-in-order-iso2022jp .ensures) ∙ on (c .before .before .before .before .is-in-order-iso2022jp .result) (c .before .before .before .if8 .left), (sym (c .before .before .before .before .before .before .before .is-in-order-euckr .ensures) ∙ on (c .before .before .before .before .before .before .before .is-in-order-euckr .result) (c .before .before .before .before .before .before .if7 .left), (sym (c .before .before .before .before .before .before .before .before .before .before .is-in-order-big5 .ensures) ∙ on (c .before .before .before .before .before .before .before .before .before .before .is-in-order-big5 .result) (c .before .before .before .before .before .before .before .before .before .if6 .left), (sym (c .before .before .before .before .before .before .before .before .before .before .before .before .before .is-in-order-caseless .ensures) ∙ on (c .before .before .before .before .before .before .before .before .before .before .before .before .before .is-in-order-caseless .result) (c .before .before .before .before .before .before .before .before .before .before .before .before .if5 .left), (sym (c .before .before .before .before .before .before .before .before .before .before .before .before .before .before .before .before .is-in-order-logical .ensures) ∙ on (c .before .before .before .before .before .before .before .before .before .before .before .before .before .before .before .before .is-in-order-logical .result) (c .before .before .before .before .before .before .before .before .before .before .before .before .before .before .before .if4 .left), (sym (c .before .before .before .before .before .before .before .before .before .before .before .before .before .before .before .before .before .before .before .is-in-order-visual .ensures) ∙ on (c .before .before .before .before .before .before .before .before .before .before .before .before .before .before .before .before .before .before .before .is-in-order-visual .result) (c .before .before .before .before .before .before .before .before .before .before .before .before .before .before .before .before .before .before .if3 .left), (sym (c .before .before .before .before .before .before .before .before .before .before .before .before .before .before .before .before .before .before .before .before .before .before .is-in-order-arabic-french .ensures) ∙ on (c .before .before .before .before .before .before .before .before .before .before .before .before .before .before .before .before .before .before .before .before .before .before .is-in-order-arabic-french .result) (c .before .before .before .before .before .before .before .before .before .before .before .before .before .before .before .before .before .before .before .before .before .if2 .left), tt))))))))
 
 pub are-in-order-spec : {M : Type 1} → statement M
 are-in-order-spec =
     tie.close
     (tie.spec
-    Inv-loop
-    μ-loop
     returns
     with-space-requires
-    loop-holds
-    mul-place
-    array-copy-out-place
-    is-in-order-requires
-    add-k
-    loop-less
-    loop-again
+    array-copy-out-is-in-order-arabic-french
+    is-in-order-arabic-french-requires
     returns-2
-    returns-3)
+    array-copy-out-is-in-order-visual
+    is-in-order-visual-requires
+    returns-3
+    array-copy-out-is-in-order-logical
+    is-in-order-logical-requires
+    returns-4
+    array-copy-out-is-in-order-caseless
+    is-in-order-caseless-requires
+    returns-5
+    array-copy-out-is-in-order-big5
+    is-in-order-big5-requires
+    returns-6
+    array-copy-out-is-in-order-euckr
+    is-in-order-euckr-requires
+    returns-7
+    array-copy-out-is-in-order-iso2022jp
+    is-in-order-iso2022jp-requires
+    returns-8
+    array-copy-out-is-in-order-utf8
+    is-in-order-utf8-requires
+    returns-9
+    returns-10)

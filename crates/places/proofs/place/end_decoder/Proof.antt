@@ -15,8 +15,11 @@ enum-known-score c = search needs
 enum-told : tie.Need-enum-told
 enum-told c = search needs
 
+passed-requires : tie.Need-passed-requires
+passed-requires c κs = search needs
+
 returns : tie.Need-returns
-returns c = let s = c .before .before .before in end-way-none (s .args .body) (s .args .place) (c .before .before .fresh .result) (c .before .before .fresh .ensures) (c .enum-told .given .0 .0) (c .enum-told .given .0 .1 .0) (c .enum-told .given .1)
+returns c = let s = c .before .before .before .before in let o = c .before .enum-told in end-way-none (s .args .body) (s .args .place) (c .before .before .before .fresh .result) (c .before .before .before .fresh .ensures) (o .given .0 .0) (o .given .0 .1 .0) (o .given .1) (c .passed .result) (c .passed .ensures)
 
 close-decoder-requires : tie.Need-close-decoder-requires
 close-decoder-requires c κs = search needs
@@ -32,4 +35,4 @@ returns-2 c =
     end-way-live (s .args .body) (s .args .place) (fresh .result) (fresh .ensures) z (c .before .before .before .score .given .1) (c .before .close-decoder .result) (c .settled .result) (c .before .close-decoder .ensures) (rw (thru w64 z (search needs)) at (c .settled .ensures))
 
 pub end-decoder-spec : {M : Type 1} → statement M
-end-decoder-spec = tie.close (tie.spec fresh-requires enum-known-score enum-told returns close-decoder-requires settled-requires returns-2)
+end-decoder-spec = tie.close (tie.spec fresh-requires enum-known-score enum-told passed-requires returns close-decoder-requires settled-requires returns-2)

@@ -4,7 +4,8 @@ use mathlib.Core.Path.{_≡_}
 use native.Mathlib.Omega.{arith}
 use borrow.Author.Needs.{needs}
 use Rattle.tables.specs.Tables.{Tables, tables}
-use Rattle.places.specs.FedLaws.{end-eight}
+use Rattle.places.specs.FedLaws.{end-eight, ended-read}
+use Rattle.places.specs.Slate.{nowhere}
 use Rattle.places.proofs.slate.end_each.Statement.{statement}
 use Rattle.places.proofs.slate.end_each.Tie as tie
 
@@ -41,17 +42,11 @@ array-copy-out-end-decoder-4 c = search needs
 end-decoder-requires-4 : tie.Need-end-decoder-requires-4
 end-decoder-requires-4 c κs = search needs
 
-array-copy-out-feed-caseless : tie.Need-array-copy-out-feed-caseless
-array-copy-out-feed-caseless c = search needs
-
 slice-aggregate-feed-caseless : tie.Need-slice-aggregate-feed-caseless
 slice-aggregate-feed-caseless c = search needs
 
 feed-caseless-requires : tie.Need-feed-caseless-requires
 feed-caseless-requires c κs = search needs
-
-array-copy-out-feed-logical : tie.Need-array-copy-out-feed-logical
-array-copy-out-feed-logical c = search needs
 
 slice-aggregate-feed-logical : tie.Need-slice-aggregate-feed-logical
 slice-aggregate-feed-logical c = search needs
@@ -59,17 +54,11 @@ slice-aggregate-feed-logical c = search needs
 feed-logical-requires : tie.Need-feed-logical-requires
 feed-logical-requires c κs = search needs
 
-array-copy-out-feed-visual : tie.Need-array-copy-out-feed-visual
-array-copy-out-feed-visual c = search needs
-
 slice-aggregate-feed-visual : tie.Need-slice-aggregate-feed-visual
 slice-aggregate-feed-visual c = search needs
 
 feed-visual-requires : tie.Need-feed-visual-requires
 feed-visual-requires c κs = search needs
-
-array-copy-out-feed-arabic-french : tie.Need-array-copy-out-feed-arabic-french
-array-copy-out-feed-arabic-french c = search needs
 
 slice-aggregate-feed-arabic-french : tie.Need-slice-aggregate-feed-arabic-french
 slice-aggregate-feed-arabic-french c = search needs
@@ -79,9 +68,9 @@ feed-arabic-french-requires c κs = search needs
 
 returns : tie.Need-returns
 returns c =
-    let s = c .before .before .before .before .before .before .before .before .before .before .before .before .before .before .before .before .before .before .before .before .before .before .before .before .before .before .before .before .before .before .before .before in
-    let w = c .before .before .before .before .before .before .before .before .before .before .before .before .before .before .before .before .before .before .before .before .wrapping-add-u64 .ensures in
-    end-eight (lent s) (s .args .body) (s .args .t1) _ (long s) _ ((c .before .before .before .before .before .before .before .before .before .before .before .before .before .before .before .before .before .before .end-decoder .ensures, λ h. absurd (omega (arith, h))), ((c .before .before .before .before .before .before .before .before .before .before .before .before .before .before .before .before .end-decoder2 .ensures, λ h. absurd (omega (arith, h))), ((c .before .before .before .before .before .before .before .before .before .before .before .before .before .before .end-decoder3 .ensures, λ h. absurd (omega (arith, h))), ((c .before .before .before .before .before .before .before .before .before .before .before .before .end-decoder4 .ensures, λ h. absurd (omega (arith, h))), ((rw w at (c .before .before .before .before .before .before .before .before .before .feed-caseless .ensures .0), λ h. c .before .before .before .before .before .before .before .before .before .feed-caseless .ensures .1), ((rw w at (c .before .before .before .before .before .before .feed-logical .ensures .0), λ h. c .before .before .before .before .before .before .feed-logical .ensures .1), ((rw w at (c .before .before .before .feed-visual .ensures .0), λ h. c .before .before .before .feed-visual .ensures .1), ((rw w at (c .feed-arabic-french .ensures .0), λ h. c .feed-arabic-french .ensures .1), tt))))))))
+    let s = c .before .before .before .before .before .before .before .before .before .before .before .before .before .before .before .before .before .before .before .before .before .before .before .before .before .before .before .before in
+    let w = c .before .before .before .before .before .before .before .before .before .before .before .before .before .before .before .before .wrapping-add-u64 .ensures in
+    end-eight (lent s) (s .args .body) (s .args .t1) nowhere (long s) _ ((ended-read (s .args .body) (s .args .t1) _ 0 (rw (long s) (omega arith)) _ (c .before .before .before .before .before .before .before .before .before .before .before .before .before .before .end-decoder .ensures), λ h. absurd (omega (arith, h))), ((ended-read (s .args .body) (s .args .t1) _ 1 (rw (long s) (omega arith)) _ (c .before .before .before .before .before .before .before .before .before .before .before .before .end-decoder2 .ensures), λ h. absurd (omega (arith, h))), ((ended-read (s .args .body) (s .args .t1) _ 2 (rw (long s) (omega arith)) _ (c .before .before .before .before .before .before .before .before .before .before .end-decoder3 .ensures), λ h. absurd (omega (arith, h))), ((ended-read (s .args .body) (s .args .t1) _ 3 (rw (long s) (omega arith)) _ (c .before .before .before .before .before .before .before .before .end-decoder4 .ensures), λ h. absurd (omega (arith, h))), ((rw w at (c .before .before .before .before .before .before .feed-caseless .ensures .0), λ h. c .before .before .before .before .before .before .feed-caseless .ensures .1), ((rw w at (c .before .before .before .before .feed-logical .ensures .0), λ h. c .before .before .before .before .feed-logical .ensures .1), ((rw w at (c .before .before .feed-visual .ensures .0), λ h. c .before .before .feed-visual .ensures .1), ((rw w at (c .feed-arabic-french .ensures .0), λ h. c .feed-arabic-french .ensures .1), tt))))))))
 
 pub end-each-spec : {M : Type 1} → statement M
 end-each-spec =
@@ -96,16 +85,12 @@ end-each-spec =
     end-decoder-requires-3
     array-copy-out-end-decoder-4
     end-decoder-requires-4
-    array-copy-out-feed-caseless
     slice-aggregate-feed-caseless
     feed-caseless-requires
-    array-copy-out-feed-logical
     slice-aggregate-feed-logical
     feed-logical-requires
-    array-copy-out-feed-visual
     slice-aggregate-feed-visual
     feed-visual-requires
-    array-copy-out-feed-arabic-french
     slice-aggregate-feed-arabic-french
     feed-arabic-french-requires
     returns)
