@@ -44,14 +44,14 @@ module _ (c : tie.After-enum-told) where
 -- the front after the chunk, uncounted
 module _ (c : tie.After-uncounted) where
   abbrev first : tie.Start
-  first = begin (c .before .before .before .before)
+  first = begin (c .before .before .before)
 
   uncounted-is : c .uncounted .result ≡ uncounted (first .args .state .front) (first .args .chunk .now) (first .args .last) (triggerOf (first .args .state .front) (first .args .chunk .now))
   uncounted-is = rw (c .before .trigger-in .ensures) at (c .uncounted .ensures)
 
   roomy : (part : List ℕ) → length part ≤ length (first .args .chunk .now) → Roomy (c .uncounted .result) (length part)
   roomy part h =
-      let f = passed (c .before .before .before .before) in
+      let f = passed (c .before .before .before) in
       rw uncounted-is
       (record {
         accepted = f .short;
@@ -87,7 +87,7 @@ trigger-in-requires c κs = search needs
 
 uncounted-requires : tie.Need-uncounted-requires
 uncounted-requires c κs =
-    let f = passed (c .before .before .before) in
+    let f = passed (c .before .before) in
     let o = f .in-order .front in
     record { accepted = f .in-order .front .most; seen = omega (arith, o .counted, o .most); bodied = omega (arith, o .bodied, o .most); short = omega (arith, f .short) }
 
@@ -104,10 +104,10 @@ enum-known-from : tie.Need-enum-known-from
 enum-known-from c = search needs
 
 sub-part : tie.Need-sub-part
-sub-part c = from-within c
+sub-part c = from-within (c .before)
 
 part-part-start : tie.Need-part-part-start
-part-part-start c = from-within c
+part-part-start c = from-within (c .before)
 
 part-part-end : tie.Need-part-part-end
 part-part-end c = search needs
@@ -117,9 +117,9 @@ feed-requires c κs = search needs
 
 counted-requires : tie.Need-counted-requires
 counted-requires c κs =
-    let next = c .before .before .before .before .before .before in
+    let next = c .before .before .before .before .before .before .before in
     let s = first next in
-    let n = c .before .before .before .from .given .0 .0 in
+    let n = c .before .before .before .before .from .given .0 .0 in
     roomy next (take (length (s .args .chunk .now) - n) (drop n (s .args .chunk .now))) (rw (rest-is, length-drop) (omega arith))
 
 accepted-requires-2 : tie.Need-accepted-requires-2
@@ -133,18 +133,18 @@ bytes-requires c κs = search needs
 
 array-share-prefix-saved : tie.Need-array-share-prefix-saved
 array-share-prefix-saved c =
-    let s = first (c .before .before .before .before .before .before) in
-    let trigger = c .before .before .before .before .before .before .before .trigger-in in
-    let due = c .before .before .before .before .before .due-by in
-    let count = c .before .before .before .count in
-    rw (c .bytes .ensures) (after-within (s .args .state .front) (s .args .chunk .now) (trigger .result) (trigger .ensures) (due .result) (due .ensures .1) (count .given .0 .0) (count .given .1) .0)
-
-slice-aggregate-feed-after : tie.Need-slice-aggregate-feed-after
-slice-aggregate-feed-after c =
     let s = first (c .before .before .before .before .before .before .before) in
     let trigger = c .before .before .before .before .before .before .before .before .trigger-in in
     let due = c .before .before .before .before .before .before .due-by in
     let count = c .before .before .before .before .count in
+    rw (c .bytes .ensures) (after-within (s .args .state .front) (s .args .chunk .now) (trigger .result) (trigger .ensures) (due .result) (due .ensures .1) (count .given .0 .0) (count .given .1) .0)
+
+slice-aggregate-feed-after : tie.Need-slice-aggregate-feed-after
+slice-aggregate-feed-after c =
+    let s = first (c .before .before .before .before .before .before .before .before) in
+    let trigger = c .before .before .before .before .before .before .before .before .before .trigger-in in
+    let due = c .before .before .before .before .before .before .before .due-by in
+    let count = c .before .before .before .before .before .count in
     let h = after-within (s .args .state .front) (s .args .chunk .now) (trigger .result) (trigger .ensures) (due .result) (due .ensures .1) (count .given .0 .0) (count .given .1) .0 in
     let e : count .given .0 .0 ≡ length (take (count .given .0 .0) (c .before .bytes .result)) = rw (c .before .bytes .ensures, length-take) (omega (arith, h)) in
     e
@@ -153,7 +153,7 @@ feed-after-requires : tie.Need-feed-after-requires
 feed-after-requires c κs = search needs
 
 counted-requires-2 : tie.Need-counted-requires-2
-counted-requires-2 c κs = let next = c .before .before .before .before .before .before .before .before in roomy next (first next .args .chunk .now) (omega arith)
+counted-requires-2 c κs = let next = c .before .before .before .before .before .before .before .before .before in roomy next (first next .args .chunk .now) (omega arith)
 
 accepted-requires-3 : tie.Need-accepted-requires-3
 accepted-requires-3 c κs = search needs
@@ -167,19 +167,19 @@ returns c =
 
 returns-2 : tie.Need-returns-2
 returns-2 c =
-    let due = c .before .before .before in
+    let due = c .before .before .before .before in
     let next = due .before in
-    let t = next .before .before .before .before in
+    let t = next .before .before .before in
     let s = begin t in
-    done t _ (way-nothing (lent s) (s .args .state) (s .args .chunk .now) (s .args .last) (passed t) (due .due-by .result) (due-is due) (c .before .enum-told2 .given .1) (next .uncounted .result) (uncounted-is next)) (c .accepted .result) (c .accepted .ensures)
+    done t _ (way-nothing (lent s) (s .args .state) (s .args .chunk .now) (s .args .last) (passed t) (due .due-by .result) (due-is due) (c .before .before .enum-told2 .given .1) (next .uncounted .result) (uncounted-is next)) (c .accepted .result) (c .accepted .ensures)
 
 returns-3 : tie.Need-returns-3
 returns-3 c =
     let k = c .before in
-    let from = k .before .before .before .before .from in
-    let due = k .before .before .before .before .before .before in
+    let from = k .before .before .before .before .before .from in
+    let due = k .before .before .before .before .before .before .before in
     let next = due .before in
-    let t = next .before .before .before .before in
+    let t = next .before .before .before in
     let s = begin t in
     let n = from .given .0 .0 in
     let part = take (length (s .args .chunk .now) - n) (drop n (s .args .chunk .now)) in
@@ -188,11 +188,11 @@ returns-3 c =
 returns-4 : tie.Need-returns-4
 returns-4 c =
     let k = c .before in
-    let count = k .before .before .before .before .before .before .count in
-    let due = k .before .before .before .before .before .before .before .before in
+    let count = k .before .before .before .before .before .before .before .count in
+    let due = k .before .before .before .before .before .before .before .before .before in
     let next = due .before in
     let trigger = next .before .trigger-in in
-    let t = next .before .before .before .before in
+    let t = next .before .before .before in
     let s = begin t in
     let bytes = k .before .before .before .bytes in
     let n = count .given .0 .0 in
