@@ -39,6 +39,8 @@ use Rattle.kinds.specs.declared.machine.Machine.{Machine}
 use Rattle.kinds.specs.declared.machine.Machine.the-variants.{Utf8, Iso2022Jp, EucKr, Big5, Caseless, Logical, Visual, ArabicFrench}
 use Rattle.places.specs.Order.{spacedOf, droppedB, ScoredFor, ZeroOrNone, FedOr, PlaceFor, SlateFor, scoredB, zeroOrNoneB, unfedB, placeB, slateB}
 use Rattle.places.specs.Place.{placeAs, byteAt, endAt, endFrom, endOf}
+use Rattle.places.specs.Steps.{soundIf, freshIf, askedOf, answerOf}
+use Rattle.places.specs.declared.order.Asked.{Asked}
 use Rattle.places.specs.declared.place.Place.{Place}
 use Rattle.places.specs.declared.place.Score.{Score}
 use Rattle.places.specs.declared.place.Score.the-variants.{None, Live}
@@ -161,20 +163,33 @@ module _ (n body : ℕ) (closed fed : Bool) (k : ℕ) (p : Place) where
       unfolding placeB scoredB
       place-fed u = rw (eq-eqb _ _ e, q, u, and-true) (and-comm (leb (natAbs s) (perByte * reachOf (p .machine) n closed)) (soundB n (reachOf (p .machine) n closed) (p .machine)))
 
-  -- as the code goes, by the kind of its machine and the kind's reach
-  module _ (m : Machine) (e : p .machine ≡ m) (kind : placeNumber m ≡ k) (r : Bool) where
+  -- as the code goes, by the kind of its machine and the kind's reach: what is asked, and what is answered
+  module _ (m : Machine) (e : p .machine ≡ m) (kind : placeNumber m ≡ k) (reach : ℕ) (far : reachOf m n closed ≡ reach) where
     number : placeNumber (p .machine) ≡ k
     number = rw e kind
 
-    pub way-none : (d : Reason) (at : ℕ) → p .score ≡ None d at → r ≡ (droppedB body closed fed k d at && freshB m) → r ≡ placeB n body closed fed k p
-    way-none d at q i = i ∙ (and-comm (droppedB body closed fed k d at) (freshB m) ∙ (ap (λ (x : Machine). freshB x && droppedB body closed fed k d at) (sym e) ∙ place-none number d at q))
+    sound-answer : (b : Bool) → answerOf (soundIf b) (soundB n reach m) (freshB m) ≡ (b && soundB n reach m)
+    sound-answer true = refl
+    sound-answer false = refl
 
-    pub way-unfed : (s : ℤ) → p .score ≡ Live s → fed ≡ false → r ≡ (eqb (natAbs s) 0 && freshB m) → r ≡ placeB n body closed fed k p
-    way-unfed s q u i = i ∙ (ap (λ (x : Machine). eqb (natAbs s) 0 && freshB x) (sym e) ∙ place-unfed number s q u)
+    fresh-answer : (b : Bool) → answerOf (freshIf b) (soundB n reach m) (freshB m) ≡ (b && freshB m)
+    fresh-answer true = refl
+    fresh-answer false = refl
 
-    pub way-fed : (reach : ℕ) → reachOf m n closed ≡ reach → (s : ℤ) → p .score ≡ Live s → fed ≡ true → r ≡ (leb (natAbs s) (perByte * reach) && soundB n reach m) → r ≡ placeB n body closed fed k p
-    way-fed reach far s q u i =
-        i ∙ (ap (λ (x : ℕ). leb (natAbs s) (perByte * x) && soundB n x m) (sym far) ∙ (ap (λ (x : Machine). leb (natAbs s) (perByte * reachOf x n closed) && soundB n (reachOf x n closed) x) (sym e) ∙ place-fed number s q u))
+    none-asked : (d : Reason) (at : ℕ) → p .score ≡ None d at → answerOf (freshIf (droppedB body closed fed k d at)) (soundB n reach m) (freshB m) ≡ placeB n body closed fed k p
+    none-asked d at q = fresh-answer (droppedB body closed fed k d at) ∙ (and-comm (droppedB body closed fed k d at) (freshB m) ∙ (ap (λ (x : Machine). freshB x && droppedB body closed fed k d at) (sym e) ∙ place-none number d at q))
+
+    live-asked : (s : ℤ) → p .score ≡ Live s → (f : Bool) → fed ≡ f → answerOf (cond f (soundIf (leb (natAbs s) (perByte * reach))) (freshIf (eqb (natAbs s) 0))) (soundB n reach m) (freshB m) ≡ placeB n body closed fed k p
+    live-asked s q true u =
+        sound-answer (leb (natAbs s) (perByte * reach)) ∙ (ap (λ (x : ℕ). leb (natAbs s) (perByte * x) && soundB n x m) (sym far) ∙ (ap (λ (x : Machine). leb (natAbs s) (perByte * reachOf x n closed) && soundB n (reachOf x n closed) x) (sym e) ∙ place-fed number s q u))
+    live-asked s q false u = fresh-answer (eqb (natAbs s) 0) ∙ (ap (λ (x : Machine). eqb (natAbs s) 0 && freshB x) (sym e) ∙ place-unfed number s q u)
+
+    place-asked : (c : Score) → p .score ≡ c → answerOf (askedOf reach body closed fed k c) (soundB n reach m) (freshB m) ≡ placeB n body closed fed k p
+    place-asked (None d at) q = none-asked d at q
+    place-asked (Live s) q = live-asked s q fed refl
+
+    pub way-asked : (a : Asked) → a ≡ askedOf reach body closed fed k (p .score) → (r : Bool) → r ≡ answerOf a (soundB n reach m) (freshB m) → r ≡ placeB n body closed fed k p
+    way-asked a q r i = i ∙ (ap (λ (x : Asked). answerOf x (soundB n reach m) (freshB m)) q ∙ place-asked (p .score) refl)
 
 pub spaced-most : (n most : ℕ) (closed : Bool) → n ≤ most → spacedOf n closed ≤ most + 1
 spaced-most n most true h = omega (arith, h)

@@ -6,6 +6,7 @@ ghost use lib.IntN.{natAbs};
 ghost use Rattle.laws.specs.Limit.{limit};
 ghost use Rattle.weights.specs.Weights.{perByte};
 ghost use Rattle.places.specs.Order.{spacedOf, droppedB, placeB, slateB};
+ghost use Rattle.places.specs.Steps.{soundIf, freshIf, askedOf};
 use crate::place;
 use crate::place::Place;
 use crate::place::Score;
@@ -68,8 +69,50 @@ fn is_zero(n: i64) -> bool
     signed::size(n) == 0
 }
 
+// What is asked of the record of a place by its score: that no bound excludes it, that it is fresh (which no bound excludes), or
+// nothing, since no place can have the score.
+pub(crate) enum Asked {
+    Sound,
+    Fresh,
+    Never,
+}
+
+fn sound_if(possible: bool) -> Asked
+    ensures { λ r. ⌜ r ≡ soundIf possible ⌝ }
+{
+    if possible {
+        return Asked::Sound;
+    }
+    Asked::Never
+}
+
+fn fresh_if(possible: bool) -> Asked
+    ensures { λ r. ⌜ r ≡ freshIf possible ⌝ }
+{
+    if possible {
+        return Asked::Fresh;
+    }
+    Asked::Never
+}
+
+// By the score of place k, of a machine that has seen so many bytes at most, fed already or not.
+fn ask(score: Score, k: usize, reach: u64, body: u64, closed: bool, fed: bool) -> Asked
+    requires { ⌜ reach ≤ limit + 1 ⌝ }
+    ensures { λ r. ⌜ r ≡ askedOf reach body closed fed k score ⌝ }
+{
+    match score {
+        Score::None(reason, at) => fresh_if(is_dropped(reason, at, k, body, closed, fed)),
+        Score::Live(n) => {
+            if fed {
+                return sound_if(is_small(n, reach));
+            }
+            fresh_if(is_zero(n))
+        }
+    }
+}
+
 // Whether a place can stand where its kind does, after so many bytes, with the closing space so many, fed already or not: a
-// function for each kind. A fresh record is one that no bound excludes.
+// function for each kind.
 fn is_in_order_utf8(place: Place, bytes: u64, body: u64, closed: bool, fed: bool) -> bool
     requires { ⌜ bytes ≤ limit ⌝ }
     ensures { λ r. ⌜ r ≡ placeB bytes body closed fed 0 place ⌝ }
@@ -79,16 +122,10 @@ fn is_in_order_utf8(place: Place, bytes: u64, body: u64, closed: bool, fed: bool
     let Machine::Utf8(m) = machine else {
         return false;
     };
-    match score {
-        Score::None(reason, at) => {
-            is_dropped(reason, at, 0, body, closed, fed) && fresh::is_fresh_utf8(m)
-        }
-        Score::Live(n) => {
-            if fed {
-                return is_small(n, bytes) && m.is_sound();
-            }
-            is_zero(n) && fresh::is_fresh_utf8(m)
-        }
+    match ask(score, 0, bytes, body, closed, fed) {
+        Asked::Sound => m.is_sound(),
+        Asked::Fresh => fresh::is_fresh_utf8(m),
+        Asked::Never => false,
     }
 }
 
@@ -101,16 +138,10 @@ fn is_in_order_iso2022jp(place: Place, bytes: u64, body: u64, closed: bool, fed:
     let Machine::Iso2022Jp(m) = machine else {
         return false;
     };
-    match score {
-        Score::None(reason, at) => {
-            is_dropped(reason, at, 1, body, closed, fed) && fresh::is_fresh_iso2022jp(m)
-        }
-        Score::Live(n) => {
-            if fed {
-                return is_small(n, bytes) && m.is_sound();
-            }
-            is_zero(n) && fresh::is_fresh_iso2022jp(m)
-        }
+    match ask(score, 1, bytes, body, closed, fed) {
+        Asked::Sound => m.is_sound(),
+        Asked::Fresh => fresh::is_fresh_iso2022jp(m),
+        Asked::Never => false,
     }
 }
 
@@ -123,16 +154,10 @@ fn is_in_order_euckr(place: Place, bytes: u64, body: u64, closed: bool, fed: boo
     let Machine::EucKr(m) = machine else {
         return false;
     };
-    match score {
-        Score::None(reason, at) => {
-            is_dropped(reason, at, 2, body, closed, fed) && fresh::is_fresh_euckr(m)
-        }
-        Score::Live(n) => {
-            if fed {
-                return is_small(n, bytes) && m.is_sound_for(bytes);
-            }
-            is_zero(n) && fresh::is_fresh_euckr(m)
-        }
+    match ask(score, 2, bytes, body, closed, fed) {
+        Asked::Sound => m.is_sound_for(bytes),
+        Asked::Fresh => fresh::is_fresh_euckr(m),
+        Asked::Never => false,
     }
 }
 
@@ -145,16 +170,10 @@ fn is_in_order_big5(place: Place, bytes: u64, body: u64, closed: bool, fed: bool
     let Machine::Big5(m) = machine else {
         return false;
     };
-    match score {
-        Score::None(reason, at) => {
-            is_dropped(reason, at, 3, body, closed, fed) && fresh::is_fresh_big5(m)
-        }
-        Score::Live(n) => {
-            if fed {
-                return is_small(n, bytes) && m.is_sound_for(bytes);
-            }
-            is_zero(n) && fresh::is_fresh_big5(m)
-        }
+    match ask(score, 3, bytes, body, closed, fed) {
+        Asked::Sound => m.is_sound_for(bytes),
+        Asked::Fresh => fresh::is_fresh_big5(m),
+        Asked::Never => false,
     }
 }
 
@@ -175,16 +194,10 @@ fn is_in_order_caseless(
     let Machine::Caseless(m) = machine else {
         return false;
     };
-    match score {
-        Score::None(reason, at) => {
-            is_dropped(reason, at, 4, body, closed, fed) && fresh::is_fresh_caseless(m)
-        }
-        Score::Live(n) => {
-            if fed {
-                return is_small(n, spaced) && sound::is_sound_caseless(m, bytes, spaced);
-            }
-            is_zero(n) && fresh::is_fresh_caseless(m)
-        }
+    match ask(score, 4, spaced, body, closed, fed) {
+        Asked::Sound => sound::is_sound_caseless(m, bytes, spaced),
+        Asked::Fresh => fresh::is_fresh_caseless(m),
+        Asked::Never => false,
     }
 }
 
@@ -205,16 +218,10 @@ fn is_in_order_logical(
     let Machine::Logical(m) = machine else {
         return false;
     };
-    match score {
-        Score::None(reason, at) => {
-            is_dropped(reason, at, 5, body, closed, fed) && fresh::is_fresh_logical(m)
-        }
-        Score::Live(n) => {
-            if fed {
-                return is_small(n, spaced) && sound::is_sound_logical(m, bytes, spaced);
-            }
-            is_zero(n) && fresh::is_fresh_logical(m)
-        }
+    match ask(score, 5, spaced, body, closed, fed) {
+        Asked::Sound => sound::is_sound_logical(m, bytes, spaced),
+        Asked::Fresh => fresh::is_fresh_logical(m),
+        Asked::Never => false,
     }
 }
 
@@ -235,16 +242,10 @@ fn is_in_order_visual(
     let Machine::Visual(m) = machine else {
         return false;
     };
-    match score {
-        Score::None(reason, at) => {
-            is_dropped(reason, at, 6, body, closed, fed) && fresh::is_fresh_visual(m)
-        }
-        Score::Live(n) => {
-            if fed {
-                return is_small(n, spaced) && sound::is_sound_visual(m, bytes, spaced);
-            }
-            is_zero(n) && fresh::is_fresh_visual(m)
-        }
+    match ask(score, 6, spaced, body, closed, fed) {
+        Asked::Sound => sound::is_sound_visual(m, bytes, spaced),
+        Asked::Fresh => fresh::is_fresh_visual(m),
+        Asked::Never => false,
     }
 }
 
@@ -265,16 +266,10 @@ fn is_in_order_arabic_french(
     let Machine::ArabicFrench(m) = machine else {
         return false;
     };
-    match score {
-        Score::None(reason, at) => {
-            is_dropped(reason, at, 7, body, closed, fed) && fresh::is_fresh_arabic_french(m)
-        }
-        Score::Live(n) => {
-            if fed {
-                return is_small(n, spaced) && sound::is_sound_arabic_french(m, bytes, spaced);
-            }
-            is_zero(n) && fresh::is_fresh_arabic_french(m)
-        }
+    match ask(score, 7, spaced, body, closed, fed) {
+        Asked::Sound => sound::is_sound_arabic_french(m, bytes, spaced),
+        Asked::Fresh => fresh::is_fresh_arabic_french(m),
+        Asked::Never => false,
     }
 }
 
