@@ -425,7 +425,17 @@ impl Big5 {
             }
             i += 1;
         }
-        Ran::Live(m, s)
+        let prev = m.prev;
+        let held = m.held;
+        Ran::Live(
+            Big5 {
+                lead: m.lead,
+                prev,
+                prev_byte: m.prev_byte,
+                held: held.kept(),
+            },
+            s,
+        )
     }
 
     // Whether no bound of `bytes` bytes excludes the record.

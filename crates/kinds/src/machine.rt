@@ -39,7 +39,7 @@ pub enum Ran {
     Unfit,
 }
 
-// The record is made anew from its fields in UTF-8 and EUC-KR, so that the compiler does not put it together byte by byte.
+// The record is made anew from its fields, so that the compiler does not put it together byte by byte.
 fn of_utf8(r: utf8::Ran) -> Ran
     ensures { λ r2. ⌜ r2 ≡ ofUtf8 r ⌝ }
 {
@@ -71,19 +71,7 @@ fn of_euckr(r: euckr::Ran) -> Ran
     ensures { λ r2. ⌜ r2 ≡ ofEucKr r ⌝ }
 {
     match r {
-        euckr::Ran::Live(m, change) => {
-            let prev = m.prev;
-            let held = m.held;
-            let anew = EucKr {
-                lead: m.lead,
-                prev_byte: m.prev_byte,
-                prev_was_euc_range: m.prev_was_euc_range,
-                prev,
-                current_word_len: m.current_word_len,
-                held,
-            };
-            Ran::Live(Machine::EucKr(anew), change)
-        }
+        euckr::Ran::Live(m, change) => Ran::Live(Machine::EucKr(m), change),
         euckr::Ran::Dropped(reason, at) => Ran::Dropped(reason, at),
         euckr::Ran::Unfit => Ran::Unfit,
     }

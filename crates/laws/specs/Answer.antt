@@ -45,9 +45,6 @@ told h unfit = tt
 abbrev pub BoundedBy : {S : Type 0} → ℕ → Answer S → Type 0
 BoundedBy c a = Told (λ m s. natAbs s ≤ c) a
 
--- an answer that is an outcome's, and one that can't be
+-- an answer is one outcome's
 pub ran-is : {S : Type 0} {a : Answer S} {o p : Outcome S} → a ≡ ran o → a ≡ ran p → o ≡ p
 ran-is e f = cc
-
-pub never-unfit : {S : Type 0} {a : Answer S} {o : Outcome S} → a ≡ ran o → a ≡ unfit → ⊥
-never-unfit e f = let z : _≡_ {A = ℕ} 0 1 = cc in omega arith

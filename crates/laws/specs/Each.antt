@@ -1,13 +1,11 @@
--- Lists whose elements are gone through one by one, by a loop, and tested.
-use mathlib.Core.Path.{_≡_, refl, sym, ap, _∙_}
-use mathlib.Core.Bool.{Bool, true, false, _&&_}
+-- Lists whose elements are tested one by one, each at its place.
+use mathlib.Core.Path.{_≡_, refl}
+use mathlib.Core.Bool.{Bool, true, false, _&&_, and-false}
 use mathlib.Core.List.{List, [], _∷_}
 use Prim.Native.Nat.{ℕ, zero, suc, _+_, _≤_, _<_}
 use native.Mathlib.Nat.{le-of-suc-le-suc, not-suc-le-zero, add-zero}
-use native.Mathlib.Numerals.{add-one}
 use native.Mathlib.Omega.{arith}
-use lib.ListN.{length, getD, drop}
-use lib.Seq.{drop-cons}
+use lib.ListN.{length, getD}
 use Rattle.laws.specs.Tests.{both}
 
 -- ---- each element passes the test of its place, the first one that of k
@@ -16,22 +14,14 @@ module _ {A : Type 0} (test : ℕ → A → Bool) where
   eachB k [] = true
   eachB k (x ∷ xs) = test k x && eachB (suc k) xs
 
-  -- for a loop: at its end, and one turn at i
-  pub each-done : (k : ℕ) (xs : List A) → length xs ≤ 0 → true ≡ eachB k xs
+  -- one that does not pass
+  pub each-lacks : (k : ℕ) (xs : List A) (d : A) (i : ℕ) → i < length xs → test (k + i) (getD xs i d) ≡ false → eachB k xs ≡ false
   unfolding eachB
-  each-done k [] h = refl
-  each-done k (x ∷ xs) h = absurd (not-suc-le-zero h)
-
-  module _ (xs : List A) (d : A) (i : ℕ) (h : i < length xs) where
-    each-at : eachB i (drop i xs) ≡ (test i (getD xs i d) && eachB (i + 1) (drop (i + 1) xs))
-    unfolding eachB
-    each-at = rw (drop-cons xs i d h, add-one)
-
-    pub each-turn : test i (getD xs i d) ≡ true → eachB (i + 1) (drop (i + 1) xs) ≡ eachB i (drop i xs)
-    each-turn e = sym (each-at ∙ ap (λ (t : Bool). t && eachB (i + 1) (drop (i + 1) xs)) e)
-
-    pub each-stop : test i (getD xs i d) ≡ false → false ≡ eachB i (drop i xs)
-    each-stop e = sym (each-at ∙ ap (λ (t : Bool). t && eachB (i + 1) (drop (i + 1) xs)) e)
+  each-lacks k [] d i h e = absurd (not-suc-le-zero h)
+  each-lacks k (x ∷ xs) d zero h e = rw (rw add-zero at e)
+  each-lacks k (x ∷ xs) d (suc i) h e =
+      let q : k + suc i ≡ suc k + i = omega arith in
+      rw (each-lacks (suc k) xs d i (le-of-suc-le-suc h) (rw q at e)) (and-false (test k x))
 
 -- P of each element at its place, the first one's place being k
 abbrev pub EachFrom : {A : Type 0} → (ℕ → A → Type 0) → ℕ → List A → Type 0

@@ -10,7 +10,7 @@ use lib.IntN.{pos}
 use lib.ListN.{length, getD, drop}
 use lib.Seq.{drop-cons, drop-length}
 use borrow.Author.Tests.{le-leb, lt-leb}
-use Rattle.laws.specs.Each.{eachB, EachFrom, true-each, each-weaken, each-get}
+use Rattle.laws.specs.Each.{EachFrom, each-lacks, true-each, each-weaken, each-get}
 use Rattle.laws.specs.Limit.{limit}
 use Rattle.laws.specs.declared.Reason.the-variants.{NotInSlate}
 use Rattle.weights.specs.Weights.{perByte}
@@ -172,15 +172,6 @@ module _ (ps : List Place) (d : Place) where
         next 0 (omega arith) (next 1 (omega arith) (next 2 (omega arith) (next 3 (omega arith) (next 4 (omega arith) (next 5 (omega arith) (next 6 (omega arith) (next 7 (omega arith) (rw e at (drop-length ps)))))))))
 
 -- ---- the test of all places, each asked by itself
--- an element that does not pass
-each-lacks : {A : Type 0} (test : ℕ → A → Bool) (k : ℕ) (xs : List A) (d : A) (i : ℕ) → i < length xs → test (k + i) (getD xs i d) ≡ false → eachB test k xs ≡ false
-unfolding eachB
-each-lacks test k [] d i h e = absurd (not-suc-le-zero h)
-each-lacks test k (x ∷ xs) d zero h e = rw (rw add-zero at e)
-each-lacks test k (x ∷ xs) d (suc i) h e =
-    let q : k + suc i ≡ suc k + i = omega arith in
-    rw (each-lacks test (suc k) xs d i (le-of-suc-le-suc h) (rw q at e)) (and-false (test k x))
-
 module _ (n body : ℕ) (closed fed : Bool) (ps : List Place) where
   abbrev test : ℕ → Place → Bool
   test = placeB n body closed fed

@@ -73,10 +73,13 @@ loop-again c =
     let kept = turn-within _ (s .pre .0) _ _ _ _ _ (t .before .loop .inv .sound) gave in
     going-next (t .before .loop .inv) (t .loop-test .taken) gave (kept .1) (s .pre .1 .1 .0) (omega arith) (kept .0)
 
+kept-requires : tie.Need-kept-requires Inv-loop μ-loop
+kept-requires c κs = search needs
+
 returns-2 : tie.Need-returns-2 Inv-loop μ-loop
 returns-2 c =
-    let going = c .before .loop .inv in
-    (ap (ranAs _) (going-done going (omega arith)), going-small going (omega arith))
+    let going = c .before .before .loop .inv in
+    (rw (c .kept .ensures) (ap (ranAs _) (going-done going (omega arith))), going-small going (omega arith))
 
 pub run-fit-spec : {M : Type 1} → statement M
 run-fit-spec =
@@ -95,4 +98,5 @@ run-fit-spec =
     add-i
     loop-less
     loop-again
+    kept-requires
     returns-2)
