@@ -7,8 +7,8 @@ use native.Mathlib.Nat.{mul-le-mul-left}
 use native.Mathlib.Omega.{arith}
 use lib.Dec.{eqb, leb, ltb}
 use lib.IntN.{ℤ, pos, negsuc, natAbs}
-use lib.ListN.{length, getD, drop, length-drop}
-use borrow.Author.Tests.{eqb-true, eq-eqb, ne-eqb, leb-true, leb-false, le-leb, lt-leb}
+use lib.ListN.{length}
+use borrow.Author.Tests.{eqb-true, eq-eqb, leb-true, leb-false, le-leb, lt-leb}
 use Rattle.laws.specs.Carried.{carried, Holds}
 use Rattle.laws.specs.Each.{each-true, true-each}
 use Rattle.laws.specs.Limit.{limit}
@@ -39,8 +39,9 @@ use Rattle.kinds.specs.declared.machine.Machine.{Machine}
 use Rattle.kinds.specs.declared.machine.Machine.the-variants.{Utf8, Iso2022Jp, EucKr, Big5, Caseless, Logical, Visual, ArabicFrench}
 use Rattle.places.specs.Order.{spacedOf, droppedB, ScoredFor, ZeroOrNone, FedOr, PlaceFor, SlateFor, scoredB, zeroOrNoneB, unfedB, placeB, slateB}
 use Rattle.places.specs.Place.{placeAs, byteAt, endAt, endFrom, endOf}
-use Rattle.places.specs.Steps.{soundIf, freshIf, askedOf, answerOf}
+use Rattle.places.specs.Steps.{askedIf, askedOf, answerOf}
 use Rattle.places.specs.declared.order.Asked.{Asked}
+use Rattle.places.specs.declared.order.Asked.the-variants as asked
 use Rattle.places.specs.declared.place.Place.{Place}
 use Rattle.places.specs.declared.place.Score.{Score}
 use Rattle.places.specs.declared.place.Score.the-variants.{None, Live}
@@ -168,21 +169,17 @@ module _ (n body : ℕ) (closed fed : Bool) (k : ℕ) (p : Place) where
     number : placeNumber (p .machine) ≡ k
     number = rw e kind
 
-    sound-answer : (b : Bool) → answerOf (soundIf b) (soundB n reach m) (freshB m) ≡ (b && soundB n reach m)
-    sound-answer true = refl
-    sound-answer false = refl
+    answer-if : (b : Bool) (a : Asked) → answerOf (askedIf b a) (soundB n reach m) (freshB m) ≡ (b && answerOf a (soundB n reach m) (freshB m))
+    answer-if true a = refl
+    answer-if false a = refl
 
-    fresh-answer : (b : Bool) → answerOf (freshIf b) (soundB n reach m) (freshB m) ≡ (b && freshB m)
-    fresh-answer true = refl
-    fresh-answer false = refl
+    none-asked : (d : Reason) (at : ℕ) → p .score ≡ None d at → answerOf (askedIf (droppedB body closed fed k d at) asked.Fresh) (soundB n reach m) (freshB m) ≡ placeB n body closed fed k p
+    none-asked d at q = answer-if (droppedB body closed fed k d at) asked.Fresh ∙ (and-comm (droppedB body closed fed k d at) (freshB m) ∙ (ap (λ (x : Machine). freshB x && droppedB body closed fed k d at) (sym e) ∙ place-none number d at q))
 
-    none-asked : (d : Reason) (at : ℕ) → p .score ≡ None d at → answerOf (freshIf (droppedB body closed fed k d at)) (soundB n reach m) (freshB m) ≡ placeB n body closed fed k p
-    none-asked d at q = fresh-answer (droppedB body closed fed k d at) ∙ (and-comm (droppedB body closed fed k d at) (freshB m) ∙ (ap (λ (x : Machine). freshB x && droppedB body closed fed k d at) (sym e) ∙ place-none number d at q))
-
-    live-asked : (s : ℤ) → p .score ≡ Live s → (f : Bool) → fed ≡ f → answerOf (cond f (soundIf (leb (natAbs s) (perByte * reach))) (freshIf (eqb (natAbs s) 0))) (soundB n reach m) (freshB m) ≡ placeB n body closed fed k p
+    live-asked : (s : ℤ) → p .score ≡ Live s → (f : Bool) → fed ≡ f → answerOf (cond f (askedIf (leb (natAbs s) (perByte * reach)) asked.Sound) (askedIf (eqb (natAbs s) 0) asked.Fresh)) (soundB n reach m) (freshB m) ≡ placeB n body closed fed k p
     live-asked s q true u =
-        sound-answer (leb (natAbs s) (perByte * reach)) ∙ (ap (λ (x : ℕ). leb (natAbs s) (perByte * x) && soundB n x m) (sym far) ∙ (ap (λ (x : Machine). leb (natAbs s) (perByte * reachOf x n closed) && soundB n (reachOf x n closed) x) (sym e) ∙ place-fed number s q u))
-    live-asked s q false u = fresh-answer (eqb (natAbs s) 0) ∙ (ap (λ (x : Machine). eqb (natAbs s) 0 && freshB x) (sym e) ∙ place-unfed number s q u)
+        answer-if (leb (natAbs s) (perByte * reach)) asked.Sound ∙ (ap (λ (x : ℕ). leb (natAbs s) (perByte * x) && soundB n x m) (sym far) ∙ (ap (λ (x : Machine). leb (natAbs s) (perByte * reachOf x n closed) && soundB n (reachOf x n closed) x) (sym e) ∙ place-fed number s q u))
+    live-asked s q false u = answer-if (eqb (natAbs s) 0) asked.Fresh ∙ (ap (λ (x : Machine). eqb (natAbs s) 0 && freshB x) (sym e) ∙ place-unfed number s q u)
 
     place-asked : (c : Score) → p .score ≡ c → answerOf (askedOf reach body closed fed k c) (soundB n reach m) (freshB m) ≡ placeB n body closed fed k p
     place-asked (None d at) q = none-asked d at q

@@ -29,17 +29,14 @@ pub record FitPart (t : Own) (p : Place) (bytes : ℕ) : Type 0 where
   pub short : bytes ≤ limit
 
 -- ---- the test of a place
-abbrev pub soundIf : Bool → Asked
-soundIf b = cond b asked.Sound asked.Never
-
-abbrev pub freshIf : Bool → Asked
-freshIf b = cond b asked.Fresh asked.Never
+abbrev pub askedIf : Bool → Asked → Asked
+askedIf b a = cond b a asked.Never
 
 -- what is asked of the record at place k by its score: a fresh one where it is none, for a reason and at a place that it can have;
 -- else, once fed, one that no bound excludes, beside a score that no bound excludes, and before that a fresh one beside 0
 abbrev pub askedOf : ℕ → ℕ → Bool → Bool → ℕ → Score → Asked
-askedOf reach body closed fed k (None d at) = freshIf (droppedB body closed fed k d at)
-askedOf reach body closed fed k (Live s) = cond fed (soundIf (leb (natAbs s) (perByte * reach))) (freshIf (eqb (natAbs s) 0))
+askedOf reach body closed fed k (None d at) = askedIf (droppedB body closed fed k d at) asked.Fresh
+askedOf reach body closed fed k (Live s) = cond fed (askedIf (leb (natAbs s) (perByte * reach)) asked.Sound) (askedIf (eqb (natAbs s) 0) asked.Fresh)
 
 -- and what is answered to it: by whether the record is sound, and whether it is fresh
 abbrev pub answerOf : Asked → Bool → Bool → Bool

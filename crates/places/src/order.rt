@@ -6,7 +6,7 @@ ghost use lib.IntN.{natAbs};
 ghost use Rattle.laws.specs.Limit.{limit};
 ghost use Rattle.weights.specs.Weights.{perByte};
 ghost use Rattle.places.specs.Order.{spacedOf, droppedB, placeB, slateB};
-ghost use Rattle.places.specs.Steps.{soundIf, freshIf, askedOf};
+ghost use Rattle.places.specs.Steps.{askedIf, askedOf};
 use crate::place;
 use crate::place::Place;
 use crate::place::Score;
@@ -77,36 +77,29 @@ pub(crate) enum Asked {
     Never,
 }
 
-fn sound_if(possible: bool) -> Asked
-    ensures { λ r. ⌜ r ≡ soundIf possible ⌝ }
+fn asked_if(possible: bool, asked: Asked) -> Asked
+    ensures { λ r. ⌜ r ≡ askedIf possible asked ⌝ }
 {
     if possible {
-        return Asked::Sound;
+        return asked;
     }
     Asked::Never
 }
 
-fn fresh_if(possible: bool) -> Asked
-    ensures { λ r. ⌜ r ≡ freshIf possible ⌝ }
-{
-    if possible {
-        return Asked::Fresh;
-    }
-    Asked::Never
-}
-
-// By the score of place k, of a machine that has seen so many bytes at most, fed already or not.
+// What the score of place k asks, of a machine that has seen `reach` bytes at most, fed already or not.
 fn ask(score: Score, k: usize, reach: u64, body: u64, closed: bool, fed: bool) -> Asked
     requires { ⌜ reach ≤ limit + 1 ⌝ }
     ensures { λ r. ⌜ r ≡ askedOf reach body closed fed k score ⌝ }
 {
     match score {
-        Score::None(reason, at) => fresh_if(is_dropped(reason, at, k, body, closed, fed)),
+        Score::None(reason, at) => {
+            asked_if(is_dropped(reason, at, k, body, closed, fed), Asked::Fresh)
+        }
         Score::Live(n) => {
             if fed {
-                return sound_if(is_small(n, reach));
+                return asked_if(is_small(n, reach), Asked::Sound);
             }
-            fresh_if(is_zero(n))
+            asked_if(is_zero(n), Asked::Fresh)
         }
     }
 }

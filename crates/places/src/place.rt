@@ -203,7 +203,7 @@ pub(crate) fn feed_caseless(
     )
 }
 
-// `body` comes last: where it does not, the compiler lacks a register in this loop.
+// `body` comes last: where it does not, this loop takes an instruction a byte more.
 pub(crate) fn feed_logical(
     places: Slate,
     part: &[u8],
