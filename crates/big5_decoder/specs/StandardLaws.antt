@@ -15,7 +15,7 @@ use Rattle.pairs.specs.Standard.{indexed, returned}
 use Rattle.pairs.specs.Events.{pointsAs, eventOf}
 use Rattle.pairs.specs.Ranks.{numbers, those, rankOf}
 use Rattle.pairs.specs.RanksLaws as ranks
-use Rattle.pairs.specs.RanksLaws.{Counted, counts, counted-by}
+use Rattle.pairs.specs.RanksLaws.{CountedTrails, counts, counted-by}
 use Rattle.pairs.specs.Sequences.{Yields, Reads}
 use Rattle.pairs.specs.SequencesLaws.{yields-reads, reads-yields}
 use Rattle.pairs.specs.declared.Event.{Event}
@@ -25,12 +25,12 @@ use Rattle.big5_decoder.specs.SpecialsLaws.{specials, other-points}
 use Rattle.big5_decoder.specs.Ways.{trail-cases}
 
 -- ---- pointers: the rank by lead and then by trail, in the index, and no two the same
-pub counted : Counted layout
+pub counted : CountedTrails layout
 unfolding count those numbers counts
-counted = counted-by layout (λ b t. ⊎-elim (λ h. omega arith) (λ h. omega arith) (trail-cases b t)) refl tt
+counted = counted-by isTrail (layout .row) (λ b. b - layout .offset b) (λ b t. ⊎-elim (λ h. omega arith) (λ h. omega arith) (trail-cases b t)) refl tt
 
 module _ (lead b : ℕ) (l : isLead lead ≡ true) (t : isTrail b ≡ true) where
-  pub pointer-rank : pointerOf lead b ≡ rankOf isTrail lead b
+  pub pointer-rank : pointerOf lead b ≡ rankOf isLead isTrail lead b
   pointer-rank = ranks.pointer-rank layout counted lead b l t
 
   pub pointer-below : pointerOf lead b < big5Count

@@ -1,12 +1,11 @@
 -- What the code's branches need of the definitions.
-use mathlib.Core.Path.{_≡_, refl, ap, _∙_}
-use mathlib.Core.Bool.{Bool, true, false, _||_}
+use mathlib.Core.Path.{_≡_, ap, _∙_}
+use mathlib.Core.Bool.{true, false}
 use mathlib.Core.List.{List}
-use mathlib.Core.Logic.{_⊎_, inl, inr}
+use mathlib.Core.Logic.{_⊎_}
 use Prim.Native.Nat.{ℕ, _≤_}
 use Rattle.laws.specs.Lists.{isIn}
-use Rattle.octets.specs.Octets.{between}
-use Rattle.pairs.specs.Ranges.{range-true}
+use Rattle.pairs.specs.Ranges.{ranges-true}
 use Rattle.pairs.specs.Standard.{CodePoints, two, returned}
 use Rattle.pairs.specs.Events.{pointsAs, eventOf, malformedOf}
 use Rattle.pairs.specs.declared.Event.the-variants.{Two}
@@ -14,15 +13,8 @@ use Rattle.big5_decoder.specs.Standard.{isTrail, pointerOf, pointsOf, en
 use Rattle.big5_decoder.specs.SpecialsLaws.{Special, specials, special-points, other-points}
 
 -- ---- trails
-either : (a b : Bool) → (a || b) ≡ true → (a ≡ true) ⊎ (b ≡ true)
-either true b e = inl refl
-either false b e = inr e
-
 pub trail-cases : (b : ℕ) → isTrail b ≡ true → ((0x40 ≤ b) × (b ≤ 0x7E)) ⊎ ((0xA1 ≤ b) × (b ≤ 0xFE))
-trail-cases b e = cases (either (between 0x40 0x7E b) (between 0xA1 0xFE b) e) where
-  cases : (between 0x40 0x7E b ≡ true) ⊎ (between 0xA1 0xFE b ≡ true) → ((0x40 ≤ b) × (b ≤ 0x7E)) ⊎ ((0xA1 ≤ b) × (b ≤ 0xFE))
-  cases (inl t) = inl (range-true 0x40 0x7E b t)
-  cases (inr t) = inr (range-true 0xA1 0xFE b t)
+trail-cases b e = ranges-true 0x40 0x7E 0xA1 0xFE b e
 
 -- ---- a lead and the byte after it
 module _ (index : List ℕ) (lead b : ℕ) where

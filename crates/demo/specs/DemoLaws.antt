@@ -1,10 +1,10 @@
 -- A table filled in a loop, entry by entry; the demonstration data has the exact lengths.
-use mathlib.Core.Path.{_≡_, refl, sym, ap, _∙_}
-use mathlib.Core.List.{List, [], _∷_, _++_, append-nil}
+use mathlib.Core.Path.{_≡_, refl, ap, _∙_}
+use mathlib.Core.List.{List, _++_, append-nil}
 use Prim.Native.Nat.{ℕ, zero, suc, _+_, _-_, _≤_, _<_}
 use native.Mathlib.Numerals.{add-one}
 use native.Mathlib.Omega.{arith}
-use lib.IntN.{ℤ, pos}
+use lib.IntN.{pos}
 use lib.ListN.{length, take, set, replicate, length-replicate, length-set}
 use lib.Seq.{take-all, append-snoc, take-suc-set}
 use Rattle.lengths.specs.Lengths.{classCount, markCount, pairCount, extraCount, weightCount}
@@ -60,4 +60,4 @@ unfolding weights
 weights-length = refl
 
 pub demonstration-sized : Sized demonstration
-demonstration-sized = record { exact = rw (classes-length, marks-length, pairs-length, unmapped-length 19782, unmapped-length 23940, unmapped-length 8836, extras-length, weights-length) }
+demonstration-sized = record { exact = rw (classes-length, marks-length, pairs-length, unmapped-length 19782, unmapped-length 23940, unmapped-length 11280, extras-length, weights-length) }

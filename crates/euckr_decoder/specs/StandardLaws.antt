@@ -2,7 +2,7 @@
 use mathlib.Core.Path.{_≡_, refl, sym}
 use mathlib.Core.Bool.{true}
 use mathlib.Core.List.{List}
-use Prim.Native.Nat.{ℕ, _<_}
+use Prim.Native.Nat.{ℕ, _-_, _<_}
 use native.Mathlib.Omega.{arith}
 use lib.ListN.{getD}
 use Rattle.laws.specs.Lists.{count}
@@ -11,7 +11,7 @@ use Rattle.pairs.specs.Pairs.{isLead}
 use Rattle.pairs.specs.Ranges.{range-true}
 use Rattle.pairs.specs.Ranks.{numbers, those, rankOf}
 use Rattle.pairs.specs.RanksLaws as ranks
-use Rattle.pairs.specs.RanksLaws.{Counted, counts, counted-by}
+use Rattle.pairs.specs.RanksLaws.{CountedTrails, counts, counted-by}
 use Rattle.pairs.specs.Sequences.{Yields, Reads}
 use Rattle.pairs.specs.SequencesLaws.{yields-reads, reads-yields}
 use Rattle.pairs.specs.declared.Event.{Event}
@@ -20,12 +20,12 @@ use Rattle.euckr_decoder.specs.Standard.{isTrail, layout, pointerOf, isM
 use Rattle.euckr_decoder.specs.Ways.{pair-mapped}
 
 -- ---- pointers: the rank by lead and then by trail, in the index, and no two the same
-pub counted : Counted layout
+pub counted : CountedTrails layout
 unfolding count those numbers counts
-counted = counted-by layout (λ b t. omega (arith, range-true 0x41 0xFE b t)) refl tt
+counted = counted-by isTrail (layout .row) (λ b. b - layout .offset b) (λ b t. omega (arith, range-true 0x41 0xFE b t)) refl tt
 
 module _ (lead b : ℕ) (l : isLead lead ≡ true) (t : isTrail b ≡ true) where
-  pub pointer-rank : pointerOf lead b ≡ rankOf isTrail lead b
+  pub pointer-rank : pointerOf lead b ≡ rankOf isLead isTrail lead b
   pointer-rank = ranks.pointer-rank layout counted lead b l t
 
   pub pointer-below : pointerOf lead b < eucKrCount

@@ -4,17 +4,17 @@ use mathlib.Core.Bool.{Bool, true, false, cond, not, _&&_, _||_}
 use mathlib.Core.List.{List, [], _∷_}
 use mathlib.Core.Logic.{_⊎_}
 use Prim.Native.Nat.{ℕ, _+_, _-_, _*_, _≤_}
-use lib.Dec.{eqb, leb}
+use lib.Dec.{eqb}
 use lib.IntN.{ℤ}
-use lib.ListN.{length, getD}
+use lib.ListN.{getD}
 use Rattle.laws.specs.Lists.{isIn}
 use Rattle.lengths.specs.Lengths.{jisCount}
-use Rattle.laws.specs.Limit.{limit}
 use Rattle.laws.specs.Answer.{answered, answeredIf}
 use Rattle.laws.specs.declared.Reason.the-variants.{BadByte, BrokenEscape, CutAtClose}
 use Rattle.laws.specs.Run.{Outcome, none, live, alive, run, lastAt}
 use Rattle.octets.specs.Octets.{between}
 use Rattle.entries.specs.Entries.{isMapped}
+use Rattle.entries.specs.Ready.{Ready as ReadyFor, readyB}
 use Rattle.iso2022jp.specs.declared.DecoderState.{DecoderState}
 use Rattle.iso2022jp.specs.declared.DecoderState.the-variants.{Ascii, Roman, Katakana, LeadByte, TrailByte, EscapeStart, Escape}
 use Rattle.iso2022jp.specs.declared.OutputState.{OutputState}
@@ -107,6 +107,10 @@ leadOf m b = rangedOf m (holds TrailByte (m .out) b false) 0x7E b
 abbrev pub pairAt : ℕ → ℕ → ℕ
 pairAt lead b = (lead - 0x21) * 94 + (b - 0x21)
 
+-- how many entries, from the first on, a pair can stand at: 94 rows of 94. The index that is lent has more, which are not read
+abbrev pub firstCount : ℕ
+firstCount = 8836
+
 unfoldable pub trailOf : List ℕ → Iso2022Jp → ℕ → Outcome Iso2022Jp
 trailOf index m b =
     cond (between 0x21 0x7E b)
@@ -178,17 +182,12 @@ living m s = Live m
 abbrev pub ranAs : ℕ → Outcome Iso2022Jp → Ran
 ranAs at o = answered living Dropped at o
 
--- a record that the kind can hold, an index of the right length, and a stretch that is not too long
-pub record Ready (index : List ℕ) (m : Iso2022Jp) (xs : List ℕ) : Type 0 where
-  pub sound : Sound m
-  pub sized : length index ≡ jisCount
-  pub short : length xs ≤ limit
-
-unfoldable pub readyB : List ℕ → Iso2022Jp → List ℕ → Bool
-readyB index m xs = soundB m && (eqb (length index) jisCount && leb (length xs) limit)
+-- over the index of the right length
+abbrev pub Ready : List ℕ → Iso2022Jp → List ℕ → Type 0
+Ready index m xs = ReadyFor (Sound m) jisCount index xs
 
 unfoldable pub ranOf : List ℕ → Iso2022Jp → List ℕ → Ran
-ranOf index m xs = answeredIf living Dropped Unfit (readyB index m xs) (lastAt (stepOf index) (alive m) xs) (run (stepOf index) (alive m) xs)
+ranOf index m xs = answeredIf living Dropped Unfit (readyB (soundB m) jisCount index xs) (lastAt (stepOf index) (alive m) xs) (run (stepOf index) (alive m) xs)
 
 -- the end takes no byte
 unfoldable pub closedOf : Iso2022Jp → Ran

@@ -7,8 +7,7 @@ use Prim.Native.Nat.{ℕ, _≤_}
 use native.Mathlib.Omega.{arith}
 use lib.Dec.{eqb, ltb}
 use lib.IntN.{ℤ, pos}
-use lib.ListN.{length}
-use borrow.Author.Tests.{eq-eqb, ne-eqb, eqb-true, le-leb, leb-true, ltb-true, ltb-false, not-true}
+use borrow.Author.Tests.{eq-eqb, ne-eqb, eqb-true, ltb-true, ltb-false, not-true}
 use Rattle.laws.specs.Lists.{any, isIn}
 use Rattle.lengths.specs.Lengths.{jisCount}
 use Rattle.laws.specs.Answer.{if-fit}
@@ -26,7 +25,8 @@ use Rattle.iso2022jp.specs.declared.OutputState.the-variants.{Ascii as O
 use Rattle.iso2022jp.specs.declared.Designated.{Designated}
 use Rattle.iso2022jp.specs.declared.Designated.the-variants.{To, Nothing}
 use Rattle.iso2022jp.specs.declared.Iso2022Jp.{Iso2022Jp}
-use Rattle.iso2022jp.specs.Iso2022Jp.{Passes, holds, fresh, LeadIn, Sound, leadsEscape, leadInB, soundB, indexedBy, escapeByte, putOut, isText, asciiOf, rangedOf, pairAt, trailOf, escapeStartOf, designated, stateOf, escapedTo, stepIn, stepOf, closeIn, closeOf, ranAs, Ready, readyB, ranOf, closedOf}
+use Rattle.entries.specs.Ready.{true-ready}
+use Rattle.iso2022jp.specs.Iso2022Jp.{Passes, holds, fresh, LeadIn, Sound, leadsEscape, leadInB, soundB, indexedBy, escapeByte, putOut, isText, asciiOf, rangedOf, pairAt, trailOf, escapeStartOf, designated, stateOf, escapedTo, stepIn, stepOf, closeIn, closeOf, ranAs, Ready, ranOf, closedOf}
 
 -- ---- a byte in ASCII and Roman
 module _ (b : ℕ) where
@@ -225,21 +225,10 @@ close-reason m d e = rw e at (close-cut (m .state) m)
 
 -- ---- what a call gives
 module _ (index : List ℕ) (m : Iso2022Jp) (xs : List ℕ) where
-  pub true-ready : Ready index m xs → readyB index m xs ≡ true
-  unfolding readyB
-  true-ready r = rw (true-sound m (r .sound), eq-eqb _ _ (r .sized), le-leb _ _ (r .short))
-
-  pub ready-true : readyB index m xs ≡ true → Ready index m xs
-  unfolding readyB
-  ready-true e =
-      let p = both (soundB m) _ e in
-      let q = both (eqb (length index) jisCount) _ (p .1) in
-      record { sound = sound-true m (p .0); sized = eqb-true _ _ (q .0); short = leb-true _ _ (q .1) }
-
   -- a caller that tested
   pub ran-ready : Ready index m xs → ranOf index m xs ≡ ranAs (lastAt (stepOf index) (alive m) xs) (run (stepOf index) (alive m) xs)
   unfolding ranOf
-  ran-ready r = if-fit _ _ _ _ _ _ (true-ready r)
+  ran-ready r = if-fit _ _ _ _ _ _ (true-ready (soundB m) jisCount index xs (true-sound m) r)
 
 pub closed-ready : (m : Iso2022Jp) → Sound m → closedOf m ≡ ranAs 0 (closeOf m)
 unfolding closedOf

@@ -123,6 +123,9 @@ fn decoder_state(out: OutputState) -> DecoderState
 impl Iso2022Jp {
     pub const ESCAPE: u8 = 0x1B;
 
+    // How many of the index's entries, from the first on, a pair can stand at: no others are read.
+    pub const FIRST: usize = 8836;
+
     pub fn fresh() -> Iso2022Jp
         ensures { λ r. ⌜ r ≡ fresh ⌝ }
     {

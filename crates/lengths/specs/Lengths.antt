@@ -17,7 +17,7 @@ abbrev pub eucKrCount : ℕ
 eucKrCount = 23940
 
 abbrev pub jisCount : ℕ
-jisCount = 8836
+jisCount = 11280
 
 abbrev pub extraCount : ℕ
 extraCount = 11172

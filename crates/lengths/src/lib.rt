@@ -10,7 +10,7 @@ pub const BIG5: usize = 19_782;
 
 pub const EUC_KR: usize = 23_940;
 
-pub const JIS: usize = 8_836;
+pub const JIS: usize = 11_280;
 
 pub const EXTRAS: usize = 11_172;
 

@@ -1,6 +1,7 @@
 -- Ranges, by the tests that the code makes one after the other.
 use mathlib.Core.Path.{_≡_, refl}
 use mathlib.Core.Bool.{Bool, true, false, _&&_, _||_}
+use mathlib.Core.Logic.{_⊎_, inl, inr}
 use Prim.Native.Nat.{ℕ, suc, _<_, _≤_}
 use lib.Dec.{ltb, leb, leb·suc-suc}
 use borrow.Author.Tests.{le-leb, lt-leb, leb-true}
@@ -36,3 +37,11 @@ module _ (low high x : ℕ) where
   -- what a range says
   pub range-true : between low high x ≡ true → (low ≤ x) × (x ≤ high)
   range-true e = let h = both (leb low x) (leb x high) e in (leb-true low x (h .0), leb-true x high (h .1))
+
+-- what two ranges say
+pub ranges-true : (low high low′ high′ x : ℕ) → (between low high x || between low′ high′ x) ≡ true → ((low ≤ x) × (x ≤ high)) ⊎ ((low′ ≤ x) × (x ≤ high′))
+ranges-true low high low′ high′ x e = at (between low high x) refl e
+  where
+    at : (t : Bool) → between low high x ≡ t → (t || between low′ high′ x) ≡ true → ((low ≤ x) × (x ≤ high)) ⊎ ((low′ ≤ x) × (x ≤ high′))
+    at true f g = inl (range-true low high x f)
+    at false f g = inr (range-true low′ high′ x g)

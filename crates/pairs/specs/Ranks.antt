@@ -4,7 +4,6 @@ use mathlib.Core.List.{List, [], _∷_, _++_, map}
 use Prim.Native.Nat.{ℕ, zero, suc}
 use lib.Dec.{ltb, eqb}
 use Rattle.laws.specs.Lists.{count}
-use Rattle.pairs.specs.Pairs.{isLead}
 
 -- n numbers, from i on
 unfoldable pub numbers : ℕ → ℕ → List ℕ
@@ -25,12 +24,12 @@ each [] ys = []
 each (x ∷ xs) ys = map (λ (y : ℕ). (x, y)) ys ++ each xs ys
 
 -- every lead with every trail byte
-abbrev pub pairsOf : (ℕ → Bool) → List (ℕ × ℕ)
-pairsOf isTrail = each (bytes isLead) (bytes isTrail)
+abbrev pub pairsOf : (ℕ → Bool) → (ℕ → Bool) → List (ℕ × ℕ)
+pairsOf isLead isTrail = each (bytes isLead) (bytes isTrail)
 
 -- a pair that stands before that of lead and b: by lead, and then by trail
 unfoldable pub before : ℕ → ℕ → ℕ × ℕ → Bool
 before lead b p = ltb (p .0) lead || (eqb (p .0) lead && ltb (p .1) b)
 
-abbrev pub rankOf : (ℕ → Bool) → ℕ → ℕ → ℕ
-rankOf isTrail lead b = count (before lead b) (pairsOf isTrail)
+abbrev pub rankOf : (ℕ → Bool) → (ℕ → Bool) → ℕ → ℕ → ℕ
+rankOf isLead isTrail lead b = count (before lead b) (pairsOf isLead isTrail)

@@ -10,7 +10,7 @@ use lib.Dec.{T, ltb, eqb, eqb→eq}
 use lib.ListN.{length, length-append, length-map}
 use borrow.Author.Tests.{ltb-true, eqb-true, lt-ltb, le-ltb, eq-eqb}
 use Rattle.laws.specs.Lists.{count, count-append}
-use Rattle.laws.specs.Table.{every, nothing, within}
+use Rattle.laws.specs.Table.{and-left, and-right, every, nothing, within}
 use Rattle.laws.specs.Tests.{both, either}
 use Rattle.pairs.specs.Pairs.{isLead}
 use Rattle.pairs.specs.PairsLaws.{lead-bounds}
@@ -124,23 +124,23 @@ unfolding before
 not-before-itself lead b = rw (le-ltb lead lead (omega arith), eq-eqb lead lead refl, le-ltb b b (omega arith))
 
 -- ---- ranks
-module _ (isTrail : ℕ → Bool) (byte : (b : ℕ) → isTrail b ≡ true → b < 256) where
-  in-bytes : (test : ℕ → Bool) (x : ℕ) → test x ≡ true → x < 256 → List·Memᴰ x (bytes test)
-  in-bytes test x t h = in-those test x (numbers 0 256) t (Memᴰ·cast (omega arith) (in-numbers x 0 256 h))
+in-bytes : (test : ℕ → Bool) (x : ℕ) → test x ≡ true → x < 256 → List·Memᴰ x (bytes test)
+in-bytes test x t h = in-those test x (numbers 0 256) t (Memᴰ·cast (omega arith) (in-numbers x 0 256 h))
 
+module _ (isLead isTrail : ℕ → Bool) (lead-byte : (b : ℕ) → isLead b ≡ true → b < 256) (trail-byte : (b : ℕ) → isTrail b ≡ true → b < 256) where
   module _ (lead b : ℕ) (l : isLead lead ≡ true) (t : isTrail b ≡ true) where
-    in-pairs : In (pairsOf isTrail) lead b
-    in-pairs = in-each lead b (bytes isLead) (bytes isTrail) (in-bytes isLead lead l (omega (arith, lead-bounds lead l))) (in-bytes isTrail b t (byte b t))
+    in-pairs : In (pairsOf isLead isTrail) lead b
+    in-pairs = in-each lead b (bytes isLead) (bytes isTrail) (in-bytes isLead lead l (lead-byte lead l)) (in-bytes isTrail b t (trail-byte b t))
 
     -- a pair's rank is below the number of pairs
-    pub rank-below : rankOf isTrail lead b < length (pairsOf isTrail)
+    pub rank-below : rankOf isLead isTrail lead b < length (pairsOf isLead isTrail)
     rank-below =
-        rw (← count-all (pairsOf isTrail)) (count-fewer (before lead b) (λ p. true) (λ p e. refl) (lead, b) (pairsOf isTrail) in-pairs (not-before-itself lead b) refl)
+        rw (← count-all (pairsOf isLead isTrail)) (count-fewer (before lead b) (λ p. true) (λ p e. refl) (lead, b) (pairsOf isLead isTrail) in-pairs (not-before-itself lead b) refl)
 
     -- and below the rank of each that it stands before
-    rank-less : (lead′ b′ : ℕ) → Before lead b lead′ b′ → rankOf isTrail lead b < rankOf isTrail lead′ b′
+    rank-less : (lead′ b′ : ℕ) → Before lead b lead′ b′ → rankOf isLead isTrail lead b < rankOf isLead isTrail lead′ b′
     rank-less lead′ b′ h =
-        count-fewer (before lead b) (before lead′ b′) more (lead, b) (pairsOf isTrail) in-pairs (not-before-itself lead b) (true-before lead′ b′ lead b h)
+        count-fewer (before lead b) (before lead′ b′) more (lead, b) (pairsOf isLead isTrail) in-pairs (not-before-itself lead b) (true-before lead′ b′ lead b h)
       where
         more : (p : ℕ × ℕ) → before lead b p ≡ true → before lead′ b′ p ≡ true
         more p e =
@@ -148,7 +148,7 @@ module _ (isTrail : ℕ → Bool) (byte : (b : ℕ) → isTrail b ≡ true → b
             (⊎-elim (λ x. ⊎-elim (λ y. inl (omega arith)) (λ y. inl (omega arith)) h) (λ x. ⊎-elim (λ y. inl (omega arith)) (λ y. inr (omega arith, omega arith)) h) (before-true lead b (p .0) (p .1) e))
 
   -- no two pairs share a rank
-  pub rank-once : (lead b lead′ b′ : ℕ) → isLead lead ≡ true → isTrail b ≡ true → isLead lead′ ≡ true → isTrail b′ ≡ true → rankOf isTrail lead b ≡ rankOf isTrail lead′ b′ → (lead ≡ lead′) × (b ≡ b′)
+  pub rank-once : (lead b lead′ b′ : ℕ) → isLead lead ≡ true → isTrail b ≡ true → isLead lead′ ≡ true → isTrail b′ ≡ true → rankOf isLead isTrail lead b ≡ rankOf isLead isTrail lead′ b′ → (lead ≡ lead′) × (b ≡ b′)
   rank-once lead b lead′ b′ l t l′ t′ e =
       let p : Before lead b lead′ b′ → ⊥ = λ h. omega (arith, rank-less lead b l t lead′ b′ h) in
       let q : Before lead′ b′ lead b → ⊥ = λ h. omega (arith, rank-less lead′ b′ l′ t′ lead b h) in
@@ -159,51 +159,67 @@ module _ (isTrail : ℕ → Bool) (byte : (b : ℕ) → isTrail b ≡ true → b
       let q₁ : b′ < b → ⊥ = λ h. q (inr (sym s, h)) in
       (s, omega arith)
 
--- ---- pointers
--- a layout whose row is its number of trail bytes, and whose offset leaves the number of those before a byte
-pub record Counted (e : Layout) : Type 0 where
-  pub byte : (b : ℕ) → e .is-trail b ≡ true → b < 256
-  pub row-length : length (bytes (e .is-trail)) ≡ e .row
-  pub trails-before : (b : ℕ) → e .is-trail b ≡ true → count (λ t. ltb t b) (bytes (e .is-trail)) ≡ b - e .offset b
+-- ---- a set of bytes: how many there are, and how many stand before each
+pub record Counted (test : ℕ → Bool) (number : ℕ) (place : ℕ → ℕ) : Type 0 where
+  pub byte : (b : ℕ) → test b ≡ true → b < 256
+  pub all : length (bytes test) ≡ number
+  pub earlier : (b : ℕ) → test b ≡ true → count (λ x. ltb x b) (bytes test) ≡ place b
+  pub once : (b : ℕ) → test b ≡ true → count (λ x. eqb x b) (bytes test) ≡ 1
 
 -- by one test at each byte
-unfoldable pub counts : Layout → ℕ → Bool
-counts e b = cond (e .is-trail b) (eqb (count (λ t. ltb t b) (bytes (e .is-trail))) (b - e .offset b)) true
+abbrev placed : (ℕ → Bool) → (ℕ → ℕ) → ℕ → Bool
+placed test place b = eqb (count (λ x. ltb x b) (bytes test)) (place b)
 
-pub counted-by : (e : Layout) → ((b : ℕ) → e .is-trail b ≡ true → b < 256) → length (bytes (e .is-trail)) ≡ e .row → T (every (λ (b : ℕ) (u : Unit {0}). counts e b) 0 (nothing 256)) → Counted e
-unfolding counts
-counted-by e byte row t =
-    record { byte = byte; row-length = row; trails-before = λ b h. eqb→eq (count (λ t. ltb t b) (bytes (e .is-trail))) (b - e .offset b) (rw h at (within (counts e) 0 256 t b (omega arith) (omega (arith, byte b h)))) }
+abbrev single : (ℕ → Bool) → ℕ → Bool
+single test b = eqb (count (λ x. eqb x b) (bytes test)) 1
 
--- the leads: 126, so many before each, and itself once, by a test at each
-leads-length : length (bytes isLead) ≡ 126
-unfolding those numbers
-leads-length = refl
+unfoldable pub counts : (ℕ → Bool) → (ℕ → ℕ) → ℕ → Bool
+counts test place b = cond (test b) (placed test place b && single test b) true
 
-leads-before : (lead : ℕ) → isLead lead ≡ true → count (λ x. ltb x lead) (bytes isLead) ≡ lead - 0x81
-unfolding count those numbers
-leads-before lead l =
-    let h = lead-bounds lead l in
-    eqb→eq (count (λ x. ltb x lead) (bytes isLead)) (lead - 0x81) (within (λ k. eqb (count (λ x. ltb x k) (bytes isLead)) (k - 0x81)) 0x81 126 tt lead (h .0) (omega arith))
+module _ (test : ℕ → Bool) (number : ℕ) (place : ℕ → ℕ) (byte : (b : ℕ) → test b ≡ true → b < 256) where
+  tested : T (every (λ (b : ℕ) (u : Unit {0}). counts test place b) 0 (nothing 256)) → (b : ℕ) → test b ≡ true → T (placed test place b && single test b)
+  unfolding counts
+  tested t b h = rw h at (within (counts test place) 0 256 t b (omega arith) (omega (arith, byte b h)))
 
-lead-once : (lead : ℕ) → isLead lead ≡ true → count (λ x. eqb x lead) (bytes isLead) ≡ 1
-unfolding count those numbers
-lead-once lead l =
-    let h = lead-bounds lead l in
-    eqb→eq (count (λ x. eqb x lead) (bytes isLead)) 1 (within (λ k. eqb (count (λ x. eqb x k) (bytes isLead)) 1) 0x81 126 tt lead (h .0) (omega arith))
+  pub counted-by : length (bytes test) ≡ number → T (every (λ (b : ℕ) (u : Unit {0}). counts test place b) 0 (nothing 256)) → Counted test number place
+  counted-by n t =
+      record {
+        byte = byte;
+        all = n;
+        earlier = λ b h. eqb→eq (count (λ x. ltb x b) (bytes test)) (place b) (and-left (placed test place b) (single test b) (tested t b h));
+        once = λ b h. eqb→eq (count (λ x. eqb x b) (bytes test)) 1 (and-right (placed test place b) (single test b) (tested t b h));
+      }
 
-module _ (e : Layout) (counted : Counted e) where
-  pub pairs-number : length (pairsOf (e .is-trail)) ≡ 126 * e .row
-  pairs-number = each-length (bytes isLead) (bytes (e .is-trail)) ∙ rw (leads-length, counted .row-length)
+-- the pairs of two such sets: how many there are, and how many stand before each
+module _ {isLead isTrail : ℕ → Bool} {rows columns : ℕ} {row column : ℕ → ℕ} (leads : Counted isLead rows row) (trails : Counted isTrail columns column) where
+  pub pairs-number : length (pairsOf isLead isTrail) ≡ rows * columns
+  pairs-number = each-length (bytes isLead) (bytes isTrail) ∙ rw (leads .all, trails .all)
 
+  pub rank-is : (lead b : ℕ) → isLead lead ≡ true → isTrail b ≡ true → rankOf isLead isTrail lead b ≡ row lead * columns + column b
+  rank-is lead b l t =
+      split lead b (bytes isLead) (bytes isTrail) ∙ rw (leads .earlier lead l, leads .once lead l, trails .all, trails .earlier b t) (omega arith)
+
+  -- a pointer that is the rank lies below the number of pairs
+  pub below-number : (lead b at : ℕ) → isLead lead ≡ true → isTrail b ≡ true → at ≡ rankOf isLead isTrail lead b → at < rows * columns
+  below-number lead b at l t e = rw (e, ← pairs-number) (rank-below isLead isTrail (leads .byte) (trails .byte) lead b l t)
+
+-- ---- pointers into the rows of Big5 and EUC-KR
+leads : Counted isLead 126 (λ lead. lead - 0x81)
+unfolding count those numbers counts
+leads = counted-by isLead 126 (λ lead. lead - 0x81) (λ lead l. omega (arith, lead-bounds lead l)) refl tt
+
+-- a layout whose row is its number of trail bytes, and whose offset leaves the number of those before a byte
+abbrev pub CountedTrails : Layout → Type 0
+CountedTrails e = Counted (e .is-trail) (e .row) (λ b. b - e .offset b)
+
+module _ (e : Layout) (counted : CountedTrails e) where
   module _ (lead b : ℕ) (l : isLead lead ≡ true) (t : e .is-trail b ≡ true) where
-    pub pointer-rank : pointer e lead b ≡ rankOf (e .is-trail) lead b
-    pointer-rank =
-        sym (split lead b (bytes isLead) (bytes (e .is-trail)) ∙ rw (leads-before lead l, lead-once lead l, counted .row-length, counted .trails-before b t) (omega arith))
+    pub pointer-rank : pointer e lead b ≡ rankOf isLead (e .is-trail) lead b
+    pointer-rank = sym (rank-is leads counted lead b l t)
 
     pub pointer-below : pointer e lead b < 126 * e .row
-    pointer-below = rw (pointer-rank, ← pairs-number) (rank-below (e .is-trail) (counted .byte) lead b l t)
+    pointer-below = below-number leads counted lead b (pointer e lead b) l t pointer-rank
 
   pub pointer-once : (lead b lead′ b′ : ℕ) → isLead lead ≡ true → e .is-trail b ≡ true → isLead lead′ ≡ true → e .is-trail b′ ≡ true → pointer e lead b ≡ pointer e lead′ b′ → (lead ≡ lead′) × (b ≡ b′)
   pointer-once lead b lead′ b′ l t l′ t′ p =
-      rank-once (e .is-trail) (counted .byte) lead b lead′ b′ l t l′ t′ (sym (pointer-rank lead b l t) ∙ (p ∙ pointer-rank lead′ b′ l′ t′))
+      rank-once isLead (e .is-trail) (leads .byte) (counted .byte) lead b lead′ b′ l t l′ t′ (sym (pointer-rank lead b l t) ∙ (p ∙ pointer-rank lead′ b′ l′ t′))

@@ -21,9 +21,9 @@ module _ (isTrail : ℕ → Bool) (points : ℕ → CodePoints) where
   pub data Yields : List ℕ → Event → Type 0 where
     ascii-byte : (b : ℕ) → ascii b ≡ true → Yields (b ∷ []) (Point b)
     lone-byte : (b : ℕ) → ascii b ≡ false → isLead b ≡ false → Yields (b ∷ []) (Error 1)
-    one-point : (lead b p : ℕ) → isLead lead ≡ true → isTrail b ≡ true → points (rankOf isTrail lead b) ≡ one p → Yields (lead ∷ b ∷ []) (Point p)
-    two-points : (lead b p q : ℕ) → isLead lead ≡ true → isTrail b ≡ true → points (rankOf isTrail lead b) ≡ two p q → Yields (lead ∷ b ∷ []) (Two p q)
-    no-point : (lead b : ℕ) → isLead lead ≡ true → isTrail b ≡ true → points (rankOf isTrail lead b) ≡ null → Yields (lead ∷ b ∷ []) (errorAt b)
+    one-point : (lead b p : ℕ) → isLead lead ≡ true → isTrail b ≡ true → points (rankOf isLead isTrail lead b) ≡ one p → Yields (lead ∷ b ∷ []) (Point p)
+    two-points : (lead b p q : ℕ) → isLead lead ≡ true → isTrail b ≡ true → points (rankOf isLead isTrail lead b) ≡ two p q → Yields (lead ∷ b ∷ []) (Two p q)
+    no-point : (lead b : ℕ) → isLead lead ≡ true → isTrail b ≡ true → points (rankOf isLead isTrail lead b) ≡ null → Yields (lead ∷ b ∷ []) (errorAt b)
     no-trail : (lead b : ℕ) → isLead lead ≡ true → isTrail b ≡ false → Yields (lead ∷ b ∷ []) (errorAt b)
 
 -- the decoder takes in the bytes, all of them, and yields the event at the last one

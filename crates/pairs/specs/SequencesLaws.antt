@@ -13,7 +13,7 @@ use Rattle.octets.specs.Octets.{ascii}
 use Rattle.pairs.specs.Pairs.{isLead, decoded}
 use Rattle.pairs.specs.PairsLaws.{lead-bounds, returned-lead}
 use Rattle.pairs.specs.Ranks.{rankOf}
-use Rattle.pairs.specs.RanksLaws.{Counted, pointer-rank}
+use Rattle.pairs.specs.RanksLaws.{CountedTrails, pointer-rank}
 use Rattle.pairs.specs.Sequences.{errorAt, Yields, ascii-byte, lone-byte, one-point, two-points, no-point, no-trail, Reads}
 use Rattle.pairs.specs.Standard.{CodePoints, null, one, two, Layout, first, returned, next}
 use Rattle.pairs.specs.Events.{pointsAs, eventOf, seenBy, firstOf, malformedOf}
@@ -48,13 +48,13 @@ pub malformed-is : (b : ℕ) → malformedOf b ≡ errorAt b
 unfolding returned eventOf
 malformed-is b = through (λ (xs : List ℕ). Error (2 - length xs)) (ascii b) (b ∷ []) []
 
-module _ (e : Layout) (points : ℕ → CodePoints) (counted : Counted e) where
+module _ (e : Layout) (points : ℕ → CodePoints) (counted : CountedTrails e) where
   abbrev Yielded : List ℕ → Event → Type 0
   Yielded bs v = Yields (e .is-trail) points bs v
 
   module _ (lead b : ℕ) (l : isLead lead ≡ true) where
     -- what stands at the pair's rank is seen
-    seen-at : (ps : CodePoints) → e .is-trail b ≡ true → points (rankOf (e .is-trail) lead b) ≡ ps → seenBy e points lead b ≡ decoded 0 (eventOf 2 (returned b ps))
+    seen-at : (ps : CodePoints) → e .is-trail b ≡ true → points (rankOf isLead (e .is-trail) lead b) ≡ ps → seenBy e points lead b ≡ decoded 0 (eventOf 2 (returned b ps))
     seen-at ps t h = pair-seen e points lead b l ∙ rw (t, pointer-rank e counted lead b l t, h)
 
     seen-no-trail : e .is-trail b ≡ false → seenBy e points lead b ≡ decoded 0 (errorAt b)
@@ -71,7 +71,7 @@ module _ (e : Layout) (points : ℕ → CodePoints) (counted : Counted e) where
 
   -- ---- and back
   module _ (lead b : ℕ) (l : isLead lead ≡ true) where
-    point-yields : (ps : CodePoints) → e .is-trail b ≡ true → points (rankOf (e .is-trail) lead b) ≡ ps → Yielded (lead ∷ b ∷ []) (eventOf 2 (returned b ps))
+    point-yields : (ps : CodePoints) → e .is-trail b ≡ true → points (rankOf isLead (e .is-trail) lead b) ≡ ps → Yielded (lead ∷ b ∷ []) (eventOf 2 (returned b ps))
     unfolding returned eventOf pointsAs
     point-yields null t h = rw (malformed-is b) (no-point lead b l t h)
     point-yields (one p) t h = one-point lead b p l t h
@@ -79,7 +79,7 @@ module _ (e : Layout) (points : ℕ → CodePoints) (counted : Counted e) where
 
     pair-yields : (v : Event) (t : Bool) → e .is-trail b ≡ t → seenBy e points lead b ≡ decoded 0 v → Yielded (lead ∷ b ∷ []) v
     pair-yields v true t r =
-        let ps = points (rankOf (e .is-trail) lead b) in
+        let ps = points (rankOf isLead (e .is-trail) lead b) in
         let f : v ≡ eventOf 2 (returned b ps) = ap (λ (d : Decoded). d .event) (sym r ∙ seen-at lead b l ps t refl) in
         rw f (point-yields ps t refl)
     pair-yields v false t r = let f : v ≡ errorAt b = ap (λ (d : Decoded). d .event) (sym r ∙ seen-no-trail lead b l t) in rw f (no-trail lead b l t)

@@ -27,6 +27,9 @@ abbrev pub ofSingle : Single → List ℤ → Own
 ofSingle s w = own (s .classes) (s .marks) (s .pairs) [] [] w
 
 -- ---- each place's, in the order of their numbers
+abbrev pub placeCount : ℕ
+placeCount = 9
+
 abbrev pub owns : Tables → List Own
 owns t =
     let utf8 = nothing in
@@ -37,7 +40,8 @@ owns t =
     let logical = ofSingle (t .logical) (t .weights) in
     let visual = ofSingle (t .visual) (t .weights) in
     let arabicFrench = ofSingle (t .arabicFrench) (t .weights) in
-    utf8 ∷ iso2022jp ∷ euckr ∷ big5 ∷ caseless ∷ logical ∷ visual ∷ arabicFrench ∷ []
+    let shiftJis = own [] [] [] (t .jis) [] [] in
+    utf8 ∷ iso2022jp ∷ euckr ∷ big5 ∷ caseless ∷ logical ∷ visual ∷ arabicFrench ∷ shiftJis ∷ []
 
 abbrev pub ownOf : Tables → ℕ → Own
 ownOf t k = getD (owns t) k nothing
@@ -54,7 +58,8 @@ asked o =
     let euckr = (length (o .index) ≡ eucKrCount) × ((length (o .extras) ≡ extraCount) × (length (o .weights) ≡ weightCount)) in
     let big5 = (length (o .index) ≡ big5Count) × (length (o .weights) ≡ weightCount) in
     let single = SingleSized (lentTo o) in
-    utf8 ∷ iso2022jp ∷ euckr ∷ big5 ∷ single ∷ single ∷ single ∷ single ∷ []
+    let shiftJis = length (o .index) ≡ jisCount in
+    utf8 ∷ iso2022jp ∷ euckr ∷ big5 ∷ single ∷ single ∷ single ∷ single ∷ shiftJis ∷ []
 
 abbrev pub SizedAt : ℕ → Own → Type 0
 SizedAt k o = getD (asked o) k (Unit {0})

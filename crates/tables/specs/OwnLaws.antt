@@ -6,7 +6,7 @@ use native.Mathlib.Nat.{zero-add}
 use lib.ListN.{getD}
 use Rattle.laws.specs.Each.{EachFrom, each-get}
 use Rattle.single.specs.Lent.{Sized as SingleSized}
-use Rattle.tables.specs.Own.{nothing, owns, ownOf, lentTo, SizedAt}
+use Rattle.tables.specs.Own.{nothing, owns, ownOf, lentTo, SizedAt, placeCount}
 use Rattle.tables.specs.Tables.{Rule, rules, Tables, lengthsOf, Sized}
 
 module _ (t : Tables) (s : Sized t) where
@@ -15,7 +15,7 @@ module _ (t : Tables) (s : Sized t) where
   at k = ap (λ (l : List ℕ). getD l k 0) (s .exact)
 
   each-sized : EachFrom SizedAt 0 (owns t)
-  each-sized = (tt, (at 14, ((at 13, (at 15, at 16)), ((at 12, at 16), (caseless, (logical, (visual, (arabicFrench, tt))))))))
+  each-sized = (tt, (at 14, ((at 13, (at 15, at 16)), ((at 12, at 16), (caseless, (logical, (visual, (arabicFrench, (at 14, tt)))))))))
     where
       caseless : SingleSized (lentTo (ownOf t 4))
       caseless = record { classes-length = at 0; marks-length = at 1; pairs-length = at 2; weights-length = at 16 }
@@ -29,5 +29,5 @@ module _ (t : Tables) (s : Sized t) where
       arabicFrench : SingleSized (lentTo (ownOf t 7))
       arabicFrench = record { classes-length = at 9; marks-length = at 10; pairs-length = at 11; weights-length = at 16 }
 
-  pub own-sized : (k : ℕ) → k < 8 → SizedAt k (ownOf t k)
+  pub own-sized : (k : ℕ) → k < placeCount → SizedAt k (ownOf t k)
   own-sized k h = rw zero-add at (each-get SizedAt 0 (owns t) nothing each-sized k h)

@@ -4,7 +4,8 @@ use mathlib.Core.Bool.{and-false}
 use borrow.Author.Needs.{needs}
 use borrow.Author.Tests.{lt-leb, ne-eqb}
 use Rattle.laws.specs.Answer.{if-unfit}
-use Rattle.iso2022jp.specs.Iso2022Jp.{Ready, readyB, ranOf}
+use Rattle.entries.specs.Ready.{readyB}
+use Rattle.iso2022jp.specs.Iso2022Jp.{Ready, ranOf}
 use Rattle.iso2022jp.specs.Iso2022JpLaws.{sound-true, ran-ready}
 use Rattle.iso2022jp.proofs.Iso2022Jp.run.Statement.{statement}
 use Rattle.iso2022jp.proofs.Iso2022Jp.run.Tie as tie
