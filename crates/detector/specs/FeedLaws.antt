@@ -2,7 +2,7 @@
 use mathlib.Core.Path.{_≡_, refl, sym, ap, subst, _∙_}
 use mathlib.Core.Bool.{Bool, true, false, cond}
 use mathlib.Core.List.{List, [], _∷_, _++_}
-use Prim.Native.Nat.{ℕ, _+_, _-_, _<_, _≤_}
+use Prim.Native.Nat.{ℕ, _+_, _^_, _<_, _≤_}
 use native.Mathlib.Nat.{add-zero, zero-add}
 use native.Mathlib.Omega.{arith}
 use lib.Dec.{ltb}
@@ -11,6 +11,7 @@ use borrow.Author.Tests.{ltb-false, lt-ltb, le-ltb}
 use Rattle.laws.specs.Limit.{limit}
 use Rattle.laws.specs.Lists.{count, count-append}
 use Rattle.context.specs.Context.{bytesOf}
+use Rattle.tables.specs.Own.{placeCount}
 use Rattle.tables.specs.Tables.{Tables, Sized, sizedB}
 use Rattle.tables.specs.TablesLaws.{sized-true, true-sized}
 use Rattle.places.specs.Order.{SlateFor}
@@ -22,7 +23,9 @@ use Rattle.places.specs.SlateLaws.{feed-all-nil, nil-kept, fed-slate, slate-unf
 use Rattle.places.specs.declared.place.Place.{Place}
 use Rattle.detector.specs.Feed.{verdictOf, refusalOf, placesBy, advanceOf, fed, accepted, feedBy, feedOf}
 use Rattle.detector.specs.Kept.{Passed, StaysIn}
-use Rattle.state.specs.State.{flagOf, triggered, startOf}
+use Rattle.state.specs.State.{flagOf, triggered, startOf, startedOf}
+use Rattle.state.specs.StartLaws.{start-refused}
+use Rattle.state.specs.declared.Started.{Started}
 use Rattle.detector.specs.Front.{triggerOf, Reaches, none, some, reachesOf, bytesIn, counted, uncounted}
 use Rattle.detector.specs.Due.{dueAs, DueBy}
 use Rattle.detector.specs.FrontLaws.{body-more, body-most, triggerless-count}
@@ -116,6 +119,11 @@ fit-accepted t s xs passed last =
 
 pub first-passed : (t : Tables) → Sized t → (bits : ℕ) (xs : List ℕ) → length xs ≤ limit → Passed t (startOf bits) xs
 first-passed t z bits xs h = record { sized = z; in-order = start-in-order bits; going = refl; short = omega (arith, h) }
+
+-- a state whose start was refused takes a chunk like any other: no place takes part in it
+pub refused-start-feeds : (t : Tables) → Sized t → (bits : ℕ) → 2 ^ placeCount ≤ bits → (xs : List ℕ) → length xs ≤ limit → (last : Bool) → feedOf t (startedOf bits .state) xs last ≡ accepted (advanceOf t (startOf 0) xs last)
+refused-start-feeds t z bits r xs h last =
+    ap (λ (s : Started). feedOf t (s .state) xs last) (start-refused bits r) ∙ fit-accepted t (startOf 0) xs (first-passed t z 0 xs h) last
 
 -- ---- the advance
 module _ (t : Tables) (s : State) (xs : List ℕ) (last : Bool) (passed : Passed t s xs) where

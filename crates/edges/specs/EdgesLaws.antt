@@ -41,7 +41,7 @@ use Rattle.euckr.specs.Edges.{Word, no-hangul, a-hangul, word-lives}
 use Rattle.euckr.specs.Scoring as euckr
 use Rattle.euckr.specs.declared.EucKr.{EucKr as EucKrRecord}
 use Rattle.kinds.specs.Kinds.{freshOf, stepOf}
-use Rattle.tables.specs.Own.{ownOf}
+use Rattle.tables.specs.Own.{placeCount, ownOf}
 use Rattle.tables.specs.OwnLaws.{own-sized}
 use Rattle.tables.specs.Tables.{Tables, Sized}
 use Rattle.kinds.specs.declared.machine.Machine.{Machine}
@@ -96,7 +96,7 @@ module _ (t : Tables) (z : Sized t) (bits b : ℕ) (bs : List ℕ) (short : leng
   xs = b ∷ bs
 
   -- a place that takes part is left with the outcome of its machine's run, and with the byte at which it ends
-  first-leaves : (k : ℕ) (m : Machine) (o : Outcome Machine) (at : ℕ) → k < 8 → ((d : Place) → getD (slate.startOf bits) k d ≡ place m (slate.takenOf bits (2 ^ k))) → run (stepOf (ownOf t k)) (live m (pos 0)) xs ≡ o → endsAt (stepOf (ownOf t k)) (live m (pos 0)) xs ≡ at → Leaves t bits k xs (placeAs m at o)
+  first-leaves : (k : ℕ) (m : Machine) (o : Outcome Machine) (at : ℕ) → k < placeCount → ((d : Place) → getD (slate.startOf bits) k d ≡ place m (slate.takenOf bits (2 ^ k))) → run (stepOf (ownOf t k)) (live m (pos 0)) xs ≡ o → endsAt (stepOf (ownOf t k)) (live m (pos 0)) xs ≡ at → Leaves t bits k xs (placeAs m at o)
   unfolding slate.startOf ranFrom
   first-leaves k m o at h there q r take d =
       let ps = slate.startOf bits in
@@ -140,7 +140,7 @@ abbrev Comes : {S : Type 0} → (S → ℕ → Outcome S) → S → List ℕ →
 Comes step fresh xs o at = (run step (live fresh (pos 0)) xs ≡ o) × (endsAt step (live fresh (pos 0)) xs ≡ at)
 
 module _ (t : Tables) (z : Sized t) (bits b : ℕ) (bs : List ℕ) (short : length (b ∷ bs) ≤ limit) (e : isTrigger b ≡ true) where
-  own-leaves : {S : Type 0} (wrap : S → Machine) (step : S → ℕ → Outcome S) (fresh : S) (k : ℕ) → k < 8 → ((m : S) (x : ℕ) → stepOf (ownOf t k) (wrap m) x ≡ carried wrap (step m x)) → ((d : Place) → getD (slate.startOf bits) k d ≡ place (wrap fresh) (slate.takenOf bits (2 ^ k))) → (o : Outcome S) (at : ℕ) → Comes step fresh (b ∷ bs) o at → Leaves t bits k (b ∷ bs) (placeAs (wrap fresh) at (carried wrap o))
+  own-leaves : {S : Type 0} (wrap : S → Machine) (step : S → ℕ → Outcome S) (fresh : S) (k : ℕ) → k < placeCount → ((m : S) (x : ℕ) → stepOf (ownOf t k) (wrap m) x ≡ carried wrap (step m x)) → ((d : Place) → getD (slate.startOf bits) k d ≡ place (wrap fresh) (slate.takenOf bits (2 ^ k))) → (o : Outcome S) (at : ℕ) → Comes step fresh (b ∷ bs) o at → Leaves t bits k (b ∷ bs) (placeAs (wrap fresh) at (carried wrap o))
   unfolding carried
   own-leaves wrap step fresh k h same there o at c =
       let outer = stepOf (ownOf t k) in

@@ -23,6 +23,8 @@ use Rattle.kinds.proofs.machine.Machine.run_visual.Kinds as machine-mac
 use Rattle.kinds.proofs.machine.Machine.run_visual.Reads as machine-machine-run-visual-reads
 use Rattle.kinds.proofs.machine.Machine.run_arabic_french.Kinds as machine-machine-run-arabic-french-kinds
 use Rattle.kinds.proofs.machine.Machine.run_arabic_french.Reads as machine-machine-run-arabic-french-reads
+use Rattle.kinds.proofs.machine.Machine.run_shift_jis.Kinds as machine-machine-run-shift-jis-kinds
+use Rattle.kinds.proofs.machine.Machine.run_shift_jis.Reads as machine-machine-run-shift-jis-reads
 use Rattle.kinds.proofs.machine.Machine.close_decoder.Kinds as machine-machine-close-decoder-kinds
 use Rattle.kinds.proofs.machine.Machine.close_decoder.Reads as machine-machine-close-decoder-reads
 
@@ -58,6 +60,9 @@ machine-machine-run-visual = record { total = λ κs a. tt; one = λ κs a z z�
 
 pub machine-machine-run-arabic-french : Determined 5 machine-machine-run-arabic-french-kinds.ps machine-machine-run-arabic-french-kinds.r machine-machine-run-arabic-french-reads.Asked machine-machine-run-arabic-french-reads.Learnt
 machine-machine-run-arabic-french = record { total = λ κs a. tt; one = λ κs a z z′ w w′ p q. (same (p .0) (q .0), refl) }
+
+pub machine-machine-run-shift-jis : Determined 2 machine-machine-run-shift-jis-kinds.ps machine-machine-run-shift-jis-kinds.r machine-machine-run-shift-jis-reads.Asked machine-machine-run-shift-jis-reads.Learnt
+machine-machine-run-shift-jis = record { total = λ κs a. tt; one = λ κs a z z′ w w′ p q. (same (p .0) (q .0), refl) }
 
 pub machine-machine-close-decoder : Determined 0 machine-machine-close-decoder-kinds.ps machine-machine-close-decoder-kinds.r machine-machine-close-decoder-reads.Asked machine-machine-close-decoder-reads.Learnt
 machine-machine-close-decoder = record { total = λ κs a. tt; one = λ κs a z z′ w w′ p q. (same p q, refl) }

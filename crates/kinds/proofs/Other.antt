@@ -12,7 +12,7 @@ use Rattle.tables.specs.Own.{Own}
 use Rattle.kinds.specs.Kinds.{placeNumber, ranAt}
 use Rattle.kinds.specs.KindsLaws.{unfit-at}
 use Rattle.kinds.specs.declared.machine.Machine.{Machine}
-use Rattle.kinds.specs.declared.machine.Machine.the-variants.{Utf8, Iso2022Jp, EucKr, Big5, Caseless, Logical, Visual, ArabicFrench}
+use Rattle.kinds.specs.declared.machine.Machine.the-variants.{Utf8, Iso2022Jp, EucKr, Big5, Caseless, Logical, Visual, ArabicFrench, ShiftJis}
 use Rattle.kinds.specs.declared.machine.Ran.the-variants.{Unfit}
 use Rattle.kinds.proofs.machine.Machine.{the-type}
 
@@ -25,6 +25,7 @@ number (Caseless m) = refl
 number (Logical m) = refl
 number (Visual m) = refl
 number (ArabicFrench m) = refl
+number (ShiftJis m) = refl
 
 pub other-number : (k : ℕ) (ks : List ℕ) → T (isAtAll (λ (n : ℕ). eqb n k) false ks) → (m : Machine) → OneOf ks (tagOf the-type m) → eqb (placeNumber m) k ≡ false
 other-number k ks t m h = sym (at-keys (λ (n : ℕ). eqb n k) false ks t (tagOf the-type m) h ∙ ap (λ (n : ℕ). eqb n k) (number m))

@@ -25,19 +25,20 @@ use Rattle.arabic_french.specs.HeadLaws.{arabicFrench-forgets}
 use Rattle.caseless.specs.HeadLaws.{caseless-forgets}
 use Rattle.logical.specs.HeadLaws.{logical-forgets}
 use Rattle.visual.specs.HeadLaws.{visual-forgets}
+use Rattle.shift_jis.specs.HeadLaws.{shift-jis-forgets}
 use Rattle.utf8.specs.HeadLaws.{utf8-forgets}
 use Rattle.tables.specs.Own.{Own, own, lentTo}
 use Rattle.kinds.specs.Kinds.{freshOf, stepOf}
 use Rattle.kinds.specs.Plain.{isShift, plain, Plain}
 use Rattle.kinds.specs.declared.machine.Machine.{Machine}
-use Rattle.kinds.specs.declared.machine.Machine.the-variants.{Utf8, Iso2022Jp, EucKr, Big5, Caseless, Logical, Visual, ArabicFrench}
+use Rattle.kinds.specs.declared.machine.Machine.the-variants.{Utf8, Iso2022Jp, EucKr, Big5, Caseless, Logical, Visual, ArabicFrench, ShiftJis}
 
 -- ---- where the premises come from
 -- a head without shifts
 pub head-plain : (head : List ℕ) → any isTrigger head ≡ false → any isShift head ≡ false → all plain head ≡ true
 head-plain head e f = all-neither isTrigger isShift head e f
 
--- a place without classes and marks: the four decoders'
+-- a place without classes and marks: the decoders'
 pub bare-plain : (pairs : List ℤ) (index : List ℕ) (extras weights : List ℤ) → Plain (own [] [] pairs index extras weights)
 bare-plain pairs index extras weights = record { no-255 = λ b e. refl; no-letter = λ b e. refl }
 
@@ -72,3 +73,4 @@ module _ (o : Own) (p : Plain o) where
   machine-forgets (Logical m) = forgets-carried Logical (λ n b. refl) (forgets-less plain-quiet (logical-forgets (lentTo o)))
   machine-forgets (Visual m) = forgets-carried Visual (λ n b. refl) (forgets-less plain-quiet (visual-forgets (lentTo o)))
   machine-forgets (ArabicFrench m) = forgets-carried ArabicFrench (λ n b. refl) (forgets-less plain-quiet (arabicFrench-forgets (lentTo o)))
+  machine-forgets (ShiftJis m) = forgets-carried ShiftJis (λ n b. refl) (forgets-less plain-ascii (shift-jis-forgets (o .index)))

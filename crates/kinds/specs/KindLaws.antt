@@ -10,7 +10,7 @@ use Rattle.kinds.specs.Kinds.{placeNumber, freshOf, stepOf, closeOf}
 use Rattle.kinds.specs.Sound.{takesSpace, reachOf}
 use Rattle.tables.specs.Own.{Own}
 use Rattle.kinds.specs.declared.machine.Machine.{Machine}
-use Rattle.kinds.specs.declared.machine.Machine.the-variants.{Utf8, Iso2022Jp, EucKr, Big5, Caseless, Logical, Visual, ArabicFrench}
+use Rattle.kinds.specs.declared.machine.Machine.the-variants.{Utf8, Iso2022Jp, EucKr, Big5, Caseless, Logical, Visual, ArabicFrench, ShiftJis}
 
 -- the same fresh machine, and so the same kind
 abbrev pub Alike : Machine → Machine → Type 0
@@ -26,6 +26,7 @@ place-fresh (Caseless m) = refl
 place-fresh (Logical m) = refl
 place-fresh (Visual m) = refl
 place-fresh (ArabicFrench m) = refl
+place-fresh (ShiftJis m) = refl
 
 pub fresh-alike : (m : Machine) → Alike m (freshOf m)
 unfolding freshOf
@@ -37,6 +38,7 @@ fresh-alike (Caseless m) = refl
 fresh-alike (Logical m) = refl
 fresh-alike (Visual m) = refl
 fresh-alike (ArabicFrench m) = refl
+fresh-alike (ShiftJis m) = refl
 
 pub alike-place : (m k : Machine) → Alike m k → placeNumber k ≡ placeNumber m
 alike-place m k e = sym (place-fresh k) ∙ (ap placeNumber e ∙ place-fresh m)
@@ -51,6 +53,7 @@ space-fresh (Caseless m) = refl
 space-fresh (Logical m) = refl
 space-fresh (Visual m) = refl
 space-fresh (ArabicFrench m) = refl
+space-fresh (ShiftJis m) = refl
 
 pub alike-reach : (m k : Machine) (n : ℕ) (closed : Bool) → Alike m k → reachOf k n closed ≡ reachOf m n closed
 unfolding reachOf
@@ -77,6 +80,7 @@ module _ (t : Own) where
   step-alike (Logical m) b = carried-alike Logical (Logical m) (λ x. refl) _
   step-alike (Visual m) b = carried-alike Visual (Visual m) (λ x. refl) _
   step-alike (ArabicFrench m) b = carried-alike ArabicFrench (ArabicFrench m) (λ x. refl) _
+  step-alike (ShiftJis m) b = carried-alike ShiftJis (ShiftJis m) (λ x. refl) _
 
   holds-alike : (m k : Machine) → Alike m k → (o : Outcome Machine) → Holds (Alike k) o → Holds (Alike m) o
   holds-alike m k e (none d) h = tt
@@ -98,3 +102,4 @@ module _ (t : Own) where
   close-alike (Logical m) = carried-alike Logical (Logical m) (λ x. refl) _
   close-alike (Visual m) = carried-alike Visual (Visual m) (λ x. refl) _
   close-alike (ArabicFrench m) = carried-alike ArabicFrench (ArabicFrench m) (λ x. refl) _
+  close-alike (ShiftJis m) = carried-alike ShiftJis (ShiftJis m) (λ x. refl) _

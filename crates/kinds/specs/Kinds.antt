@@ -1,6 +1,6 @@
--- The eight machines as one: a byte, a stretch and the end of the stream do to each what its own definition says, over its own
+-- The nine machines as one: a byte, a stretch and the end of the stream do to each what its own definition says, over its own
 -- tables.
-use mathlib.Core.Bool.{cond}
+use mathlib.Core.Bool.{Bool, cond}
 use mathlib.Core.List.{List}
 use Prim.Native.Nat.{ℕ, _≤_}
 use lib.Dec.{eqb}
@@ -8,6 +8,7 @@ use lib.IntN.{ℤ, pos, natAbs}
 use Rattle.laws.specs.Answer.{answered}
 use Rattle.laws.specs.Carried.{carried}
 use Rattle.laws.specs.Run.{Outcome}
+use Rattle.octets.specs.Octets.{between}
 use Rattle.big5.specs.Big5 as big5
 use Rattle.big5.specs.Scoring as big5-scoring
 use Rattle.big5.specs.declared.Ran.{Ran as Big5Ran}
@@ -31,12 +32,15 @@ use Rattle.logical.specs.declared.Ran.the-variants as logical-ran
 use Rattle.visual.specs.Visual as visual
 use Rattle.visual.specs.declared.Ran.{Ran as VisualRan}
 use Rattle.visual.specs.declared.Ran.the-variants as visual-ran
+use Rattle.shift_jis.specs.ShiftJis as shiftJis
+use Rattle.shift_jis.specs.declared.Ran.{Ran as ShiftJisRan}
+use Rattle.shift_jis.specs.declared.Ran.the-variants as shiftJis-ran
 use Rattle.utf8.specs.declared.Ran.{Ran as Utf8Ran}
 use Rattle.utf8.specs.declared.Ran.the-variants as utf-8-ran
 use Rattle.utf8.specs.Utf8 as utf-8
 use Rattle.tables.specs.Own.{Own, lentTo}
 use Rattle.kinds.specs.declared.machine.Machine.{Machine}
-use Rattle.kinds.specs.declared.machine.Machine.the-variants.{Utf8, Iso2022Jp, EucKr, Big5, Caseless, Logical, Visual, ArabicFrench}
+use Rattle.kinds.specs.declared.machine.Machine.the-variants.{Utf8, Iso2022Jp, EucKr, Big5, Caseless, Logical, Visual, ArabicFrench, ShiftJis}
 use Rattle.kinds.specs.declared.machine.Ran.{Ran}
 use Rattle.kinds.specs.declared.machine.Ran.the-variants.{Live, Dropped, Unfit}
 
@@ -50,6 +54,11 @@ placeNumber (Caseless m) = 4
 placeNumber (Logical m) = 5
 placeNumber (Visual m) = 6
 placeNumber (ArabicFrench m) = 7
+placeNumber (ShiftJis m) = 8
+
+-- those of the single-byte machines
+abbrev pub isSingle : ℕ → Bool
+isSingle k = between 4 7 k
 
 -- the fresh machine of the same kind; a kind's own fresh record takes no machine and is `fresh`
 unfoldable pub freshOf : Machine → Machine
@@ -61,6 +70,7 @@ freshOf (Caseless m) = Caseless caseless.fresh
 freshOf (Logical m) = Logical logical.fresh
 freshOf (Visual m) = Visual visual.fresh
 freshOf (ArabicFrench m) = ArabicFrench arabicFrench.fresh
+freshOf (ShiftJis m) = ShiftJis shiftJis.fresh
 
 -- ---- one byte
 unfoldable pub stepOf : Own → Machine → ℕ → Outcome Machine
@@ -72,6 +82,7 @@ stepOf o (Caseless m) b = carried Caseless (caseless.stepOf (lentTo o) m b)
 stepOf o (Logical m) b = carried Logical (logical.stepOf (lentTo o) m b)
 stepOf o (Visual m) b = carried Visual (visual.stepOf (lentTo o) m b)
 stepOf o (ArabicFrench m) b = carried ArabicFrench (arabicFrench.stepOf (lentTo o) m b)
+stepOf o (ShiftJis m) b = carried ShiftJis (shiftJis.stepOf (o .index) m b)
 
 -- ---- the end of the stream
 unfoldable pub closeOf : Own → Machine → Outcome Machine
@@ -83,6 +94,7 @@ closeOf o (Caseless m) = carried Caseless (caseless.closeOf (lentTo o) m)
 closeOf o (Logical m) = carried Logical (logical.closeOf (lentTo o) m)
 closeOf o (Visual m) = carried Visual (visual.closeOf (lentTo o) m)
 closeOf o (ArabicFrench m) = carried ArabicFrench (arabicFrench.closeOf (lentTo o) m)
+closeOf o (ShiftJis m) = carried ShiftJis (shiftJis.closeOf m)
 
 -- ---- the code's answers
 abbrev pub ranAs : ℕ → Outcome Machine → Ran
@@ -128,6 +140,11 @@ ofArabicFrench (arabicFrench-ran.Live m s) = Live (ArabicFrench m) s
 ofArabicFrench (arabicFrench-ran.Dropped d n) = Dropped d n
 ofArabicFrench arabicFrench-ran.Unfit = Unfit
 
+abbrev pub ofShiftJis : ShiftJisRan → Ran
+ofShiftJis (shiftJis-ran.Live m) = Live (ShiftJis m) (pos 0)
+ofShiftJis (shiftJis-ran.Dropped d n) = Dropped d n
+ofShiftJis shiftJis-ran.Unfit = Unfit
+
 -- a stretch, and the end of the stream: for any record, any lent lists and any stretch
 unfoldable pub ranOf : Own → Machine → List ℕ → Ran
 ranOf o (Utf8 m) xs = ofUtf8 (utf-8.ranOf m xs)
@@ -138,6 +155,7 @@ ranOf o (Caseless m) xs = ofCaseless (caseless.ranOf (lentTo o) m xs)
 ranOf o (Logical m) xs = ofLogical (logical.ranOf (lentTo o) m xs)
 ranOf o (Visual m) xs = ofVisual (visual.ranOf (lentTo o) m xs)
 ranOf o (ArabicFrench m) xs = ofArabicFrench (arabicFrench.ranOf (lentTo o) m xs)
+ranOf o (ShiftJis m) xs = ofShiftJis (shiftJis.ranOf (o .index) m xs)
 
 unfoldable pub closedOf : Own → Machine → Ran
 closedOf o (Utf8 m) = ofUtf8 (utf-8.closedOf m)
@@ -148,6 +166,7 @@ closedOf o (Caseless m) = ofCaseless (caseless.closedOf (lentTo o) m)
 closedOf o (Logical m) = ofLogical (logical.closedOf (lentTo o) m)
 closedOf o (Visual m) = ofVisual (visual.closedOf (lentTo o) m)
 closedOf o (ArabicFrench m) = ofArabicFrench (arabicFrench.closedOf (lentTo o) m)
+closedOf o (ShiftJis m) = ofShiftJis (shiftJis.closedOf m)
 
 -- the same, of a machine of the kind that stands at place k; one of another kind is not run
 abbrev pub ranAt : ℕ → Own → Machine → List ℕ → Ran
@@ -163,6 +182,7 @@ decodedEnd (Caseless m) = Unfit
 decodedEnd (Logical m) = Unfit
 decodedEnd (Visual m) = Unfit
 decodedEnd (ArabicFrench m) = Unfit
+decodedEnd (ShiftJis m) = ofShiftJis (shiftJis.closedOf m)
 
 -- a live answer's change of the score is at most c in size
 abbrev pub Bounded : ℕ → Ran → Type 0
@@ -180,6 +200,7 @@ WeighedIn (Caseless m) w = Unit {0}
 WeighedIn (Logical m) w = Unit {0}
 WeighedIn (Visual m) w = Unit {0}
 WeighedIn (ArabicFrench m) w = Unit {0}
+WeighedIn (ShiftJis m) w = Unit {0}
 
 abbrev pub Weighed : Machine → List ℤ → Ran → Type 0
 Weighed m w (Live n s) = WeighedIn m w

@@ -1,4 +1,4 @@
--- A run of one of the eight machines is its own run, and what the code's answers are where the lent lengths, the record and the
+-- A run of one of the nine machines is its own run, and what the code's answers are where the lent lengths, the record and the
 -- stretch are fit.
 use mathlib.Core.Path.{_≡_, refl, sym, ap, _∙_}
 use mathlib.Core.Bool.{Bool, false, cond}
@@ -54,16 +54,21 @@ use Rattle.arabic_french.specs.ArabicFrenchLaws as arabicFrench-laws
 use Rattle.arabic_french.specs.declared.ArabicFrench.{ArabicFrench as ArabicFrenchRecord}
 use Rattle.arabic_french.specs.declared.Ran.{Ran as ArabicFrenchRan}
 use Rattle.arabic_french.specs.declared.Ran.the-variants as arabicFrench-ran
+use Rattle.shift_jis.specs.ShiftJis as shiftJis
+use Rattle.shift_jis.specs.ShiftJisLaws as shiftJis-laws
+use Rattle.shift_jis.specs.declared.Ran.{Ran as ShiftJisRan}
+use Rattle.shift_jis.specs.declared.Ran.the-variants as shiftJis-ran
+use Rattle.shift_jis.specs.declared.ShiftJis.{ShiftJis as ShiftJisRecord}
 use Rattle.utf8.specs.Utf8 as utf-8
 use Rattle.utf8.specs.Utf8Laws as utf-8-laws
 use Rattle.utf8.specs.declared.Ran.{Ran as Utf8Ran}
 use Rattle.utf8.specs.declared.Ran.the-variants as utf-8-ran
 use Rattle.utf8.specs.declared.Utf8.{Utf8 as Utf8Record}
-use Rattle.kinds.specs.Kinds.{placeNumber, stepOf, closeOf, ranAs, ofUtf8, ofIso2022Jp, ofEucKr, ofBig5, ofCaseless, ofLogical, ofVisual, ofArabicFrench, ranOf, closedOf, ranAt, Bounded, WeighedIn, Weighed}
+use Rattle.kinds.specs.Kinds.{placeNumber, stepOf, closeOf, ranAs, ofUtf8, ofIso2022Jp, ofEucKr, ofBig5, ofCaseless, ofLogical, ofVisual, ofArabicFrench, ofShiftJis, ranOf, closedOf, ranAt, Bounded, WeighedIn, Weighed}
 use Rattle.kinds.specs.Sound.{SoundFor}
 use Rattle.tables.specs.Own.{Own, lentTo, SizedAt}
 use Rattle.kinds.specs.declared.machine.Machine.{Machine}
-use Rattle.kinds.specs.declared.machine.Machine.the-variants.{Utf8, Iso2022Jp, EucKr, Big5, Caseless, Logical, Visual, ArabicFrench}
+use Rattle.kinds.specs.declared.machine.Machine.the-variants.{Utf8, Iso2022Jp, EucKr, Big5, Caseless, Logical, Visual, ArabicFrench, ShiftJis}
 use Rattle.kinds.specs.declared.machine.Ran.{Ran}
 use Rattle.kinds.specs.declared.machine.Ran.the-variants.{Live, Dropped, Unfit}
 
@@ -101,6 +106,10 @@ module _ (t : Own) (s : ℤ) (xs : List ℕ) where
   unfolding stepOf carried
   run-arabicFrench m = run-carried ArabicFrench (arabicFrench.stepOf (lentTo t)) (stepOf t) (λ (n : ArabicFrenchRecord) (b : ℕ). refl) (live m s) xs
 
+  pub run-shiftJis : (m : ShiftJisRecord) → run (stepOf t) (live (ShiftJis m) s) xs ≡ carried ShiftJis (run (shiftJis.stepOf (t .index)) (live m s) xs)
+  unfolding stepOf carried
+  run-shiftJis m = run-carried ShiftJis (shiftJis.stepOf (t .index)) (stepOf t) (λ (n : ShiftJisRecord) (b : ℕ). refl) (live m s) xs
+
 -- ---- an answer of each kind is that of its outcome
 still-answer : {S : Type 0} (P : S → Type 0) (wrap : S → Machine) (answer : ℕ → Outcome S → Ran) → ((at : ℕ) (d : Reason) → answer at (none d) ≡ Dropped d at) → ((at : ℕ) (m : S) (s : ℤ) → answer at (live m s) ≡ Live (wrap m) (pos 0)) → (at : ℕ) (o : Outcome S) → Ends P (pos 0) o → answer at o ≡ ranAs at (carried wrap o)
 unfolding carried
@@ -112,6 +121,9 @@ utf-8-answer at o h = still-answer utf-8.Sound Utf8 (λ (i : ℕ) (p : Outcome U
 
 iso2022jp-answer : (at : ℕ) (o : Outcome Iso2022JpRecord) → Ends iso2022jp.Sound (pos 0) o → ofIso2022Jp (iso2022jp.ranAs at o) ≡ ranAs at (carried Iso2022Jp o)
 iso2022jp-answer at o h = still-answer iso2022jp.Sound Iso2022Jp (λ (i : ℕ) (p : Outcome Iso2022JpRecord). ofIso2022Jp (iso2022jp.ranAs i p)) (λ (i : ℕ) (d : Reason). refl) (λ (i : ℕ) (m : Iso2022JpRecord) (s : ℤ). refl) at o h
+
+shiftJis-answer : (at : ℕ) (o : Outcome ShiftJisRecord) → Ends shiftJis.Sound (pos 0) o → ofShiftJis (shiftJis.ranAs at o) ≡ ranAs at (carried ShiftJis o)
+shiftJis-answer at o h = still-answer shiftJis.Sound ShiftJis (λ (i : ℕ) (p : Outcome ShiftJisRecord). ofShiftJis (shiftJis.ranAs i p)) (λ (i : ℕ) (d : Reason). refl) (λ (i : ℕ) (m : ShiftJisRecord) (s : ℤ). refl) at o h
 
 -- a machine whose answer tells the change of the score
 scored-answer : {S R : Type 0} (wrap : S → Machine) (of : R → Ran) (living : S → ℤ → R) (gone : Reason → ℕ → R) → ((m : S) (s : ℤ) → of (living m s) ≡ Live (wrap m) s) → ((d : Reason) (at : ℕ) → of (gone d at) ≡ Dropped d at) → (at : ℕ) (o : Outcome S) → of (answered living gone at o) ≡ ranAs at (carried wrap o)
@@ -137,7 +149,11 @@ iso2022jp-still-in D.Escape m o = tt
 pub iso2022jp-still : (m : Iso2022JpRecord) → iso2022jp.Sound m → Ends iso2022jp.Sound (pos 0) (iso2022jp.closeOf m)
 iso2022jp-still m o = iso2022jp-still-in (m .state) m o
 
--- a machine's own answer to a stretch is the answer of the eight as one
+pub shiftJis-still : (m : ShiftJisRecord) → shiftJis.Sound m → Ends shiftJis.Sound (pos 0) (shiftJis.closeOf m)
+unfolding shiftJis.closeOf
+shiftJis-still m o = either (Ends shiftJis.Sound (pos 0)) (eqb (m .lead) 0) (λ e. (o, refl)) (λ e. tt)
+
+-- a machine's own answer to a stretch is the answer of the nine as one
 own-run : {S : Type 0} (wrap : S → Machine) (inner : S → ℕ → Outcome S) (outer : Machine → ℕ → Outcome Machine) → ((m : S) (b : ℕ) → outer (wrap m) b ≡ carried wrap (inner m b)) → (m : S) (xs : List ℕ) → ranAs (lastAt inner (live m (pos 0)) xs) (carried wrap (run inner (live m (pos 0)) xs)) ≡ ranAs (lastAt outer (live (wrap m) (pos 0)) xs) (run outer (live (wrap m) (pos 0)) xs)
 unfolding carried
 own-run wrap inner outer same m xs =
@@ -160,6 +176,8 @@ module _ (t : Own) where
     ran-fit (Logical m) z o = ap ofLogical (logical-laws.ran-fit (lentTo t) m xs (record { sized = z; sound = logical-laws.sound-more limit room m (omega arith) (o .1 .1); short = short })) ∙ (scored-answer Logical ofLogical logical-ran.Live logical-ran.Dropped (λ x k. refl) (λ d i. refl) _ _ ∙ own-run Logical (logical.stepOf (lentTo t)) (stepOf t) (λ x b. refl) m xs)
     ran-fit (Visual m) z o = ap ofVisual (visual-laws.ran-fit (lentTo t) m xs (record { sized = z; sound = visual-laws.sound-more limit room m (omega arith) (o .1); short = short })) ∙ (scored-answer Visual ofVisual visual-ran.Live visual-ran.Dropped (λ x k. refl) (λ d i. refl) _ _ ∙ own-run Visual (visual.stepOf (lentTo t)) (stepOf t) (λ x b. refl) m xs)
     ran-fit (ArabicFrench m) z o = ap ofArabicFrench (arabicFrench-laws.ran-fit (lentTo t) m xs (record { sized = z; sound = arabicFrench-laws.sound-more limit room m (omega arith) (o .1); short = short })) ∙ (scored-answer ArabicFrench ofArabicFrench arabicFrench-ran.Live arabicFrench-ran.Dropped (λ x k. refl) (λ d i. refl) _ _ ∙ own-run ArabicFrench (arabicFrench.stepOf (lentTo t)) (stepOf t) (λ x b. refl) m xs)
+    ran-fit (ShiftJis m) z o =
+        ap ofShiftJis (shiftJis-laws.ran-ready (t .index) m xs (record { sound = o; sized = z; short = short })) ∙ (shiftJis-answer _ (run (shiftJis.stepOf (t .index)) (live m (pos 0)) xs) (shiftJis-laws.run-keeps (t .index) m (pos 0) xs o) ∙ own-run ShiftJis (shiftJis.stepOf (t .index)) (stepOf t) (λ x b. refl) m xs)
 
   -- ---- the end of the stream, after a stretch
   pub closed-fit : (m : Machine) → SizedAt (placeNumber m) t → SoundFor (2 * limit) (2 * limit) m → closedOf t m ≡ ranAs 0 (closeOf t m)
@@ -172,6 +190,7 @@ module _ (t : Own) where
   closed-fit (Logical m) z o = ap ofLogical (logical-laws.closed-fit (lentTo t) m (record { sized = z; sound = logical-laws.sound-more (2 * limit) room m (omega arith) (o .1 .1); short = omega arith })) ∙ scored-answer Logical ofLogical logical-ran.Live logical-ran.Dropped (λ x k. refl) (λ d i. refl) 0 _
   closed-fit (Visual m) z o = ap ofVisual (visual-laws.closed-fit (lentTo t) m (record { sized = z; sound = visual-laws.sound-more (2 * limit) room m (omega arith) (o .1); short = omega arith })) ∙ scored-answer Visual ofVisual visual-ran.Live visual-ran.Dropped (λ x k. refl) (λ d i. refl) 0 _
   closed-fit (ArabicFrench m) z o = ap ofArabicFrench (arabicFrench-laws.closed-fit (lentTo t) m (record { sized = z; sound = arabicFrench-laws.sound-more (2 * limit) room m (omega arith) (o .1); short = omega arith })) ∙ scored-answer ArabicFrench ofArabicFrench arabicFrench-ran.Live arabicFrench-ran.Dropped (λ x k. refl) (λ d i. refl) 0 _
+  closed-fit (ShiftJis m) z o = ap ofShiftJis (shiftJis-laws.closed-ready m o) ∙ shiftJis-answer 0 (shiftJis.closeOf m) (shiftJis-still m o)
 
 -- ---- a machine of another kind than the one that is run alone
 pub unfit-at : (k : ℕ) (o : Own) (m : Machine) (xs : List ℕ) → false ≡ eqb (placeNumber m) k → Unfit ≡ ranAt k o m xs
@@ -218,6 +237,11 @@ module _ (c : ℕ) where
   bounded-arabicFrench (arabicFrench-ran.Live m s) h = h
   bounded-arabicFrench (arabicFrench-ran.Dropped d n) h = tt
   bounded-arabicFrench arabicFrench-ran.Unfit h = tt
+
+  pub bounded-shiftJis : (r : ShiftJisRan) → Bounded c (ofShiftJis r)
+  bounded-shiftJis (shiftJis-ran.Live m) = omega arith
+  bounded-shiftJis (shiftJis-ran.Dropped d n) = tt
+  bounded-shiftJis shiftJis-ran.Unfit = tt
 
   -- the end of the stream changes no score of it
   pub closed-euckr : (m : EucKrRecord) → euckr.Bounded c (euckr.closedOf m)

@@ -5,8 +5,8 @@ use mathlib.Core.List.{List}
 use mathlib.Core.Logic.{_⊎_, inl, inr}
 use Prim.Native.Nat.{ℕ}
 use lib.IntN.{ℤ}
-use Rattle.laws.specs.Carried.{Holds, none-carried}
-use Rattle.laws.specs.Run.{live, run, WhenNone, run-why, when-more, none-more}
+use Rattle.laws.specs.Carried.{none-carried}
+use Rattle.laws.specs.Run.{live, run, WhenNone, run-why, none-more}
 use Rattle.laws.specs.declared.Reason.{Reason}
 use Rattle.laws.specs.declared.Reason.the-variants.{Class255, BadByte, BadSecondByte, BrokenEscape, CutAtClose}
 use Rattle.pairs.specs.PairsLaws.{OfPairs}
@@ -19,13 +19,14 @@ use Rattle.caseless.specs.CaselessLaws as caseless-laws
 use Rattle.logical.specs.LogicalLaws as logical-laws
 use Rattle.visual.specs.VisualLaws as visual-laws
 use Rattle.arabic_french.specs.ArabicFrenchLaws as arabicFrench-laws
+use Rattle.shift_jis.specs.ShiftJisLaws as shiftJis-laws
 use Rattle.utf8.specs.Utf8Laws as utf-8-laws
 use Rattle.tables.specs.Own.{Own, lentTo}
 use Rattle.kinds.specs.KindLaws.{Alike, alike-place, step-stays}
 use Rattle.kinds.specs.Kinds.{placeNumber, stepOf, closeOf}
 use Rattle.kinds.specs.Reasons.{byteReason, endReason}
 use Rattle.kinds.specs.declared.machine.Machine.{Machine}
-use Rattle.kinds.specs.declared.machine.Machine.the-variants.{Utf8, Iso2022Jp, EucKr, Big5, Caseless, Logical, Visual, ArabicFrench}
+use Rattle.kinds.specs.declared.machine.Machine.the-variants.{Utf8, Iso2022Jp, EucKr, Big5, Caseless, Logical, Visual, ArabicFrench, ShiftJis}
 
 abbrev Given : ℕ → Reason → Type 0
 Given k d = byteReason k d ≡ true
@@ -50,6 +51,7 @@ module _ (t : Own) where
   step-reason (Logical m) b = none-carried Logical (Given 5) _ (λ d e. rw (logical-laws.step-reason (lentTo t) m b d e))
   step-reason (Visual m) b = none-carried Visual (Given 6) _ (λ d e. rw (visual-laws.step-reason (lentTo t) m b d e))
   step-reason (ArabicFrench m) b = none-carried ArabicFrench (Given 7) _ (λ d e. rw (arabicFrench-laws.step-reason (lentTo t) m b d e))
+  step-reason (ShiftJis m) b = none-carried ShiftJis (Given 8) _ (λ d e. rw (shiftJis-laws.step-reason (t .index) m b d e))
 
   -- over a stretch of bytes, since a machine stays of its kind
   pub run-reason : (m : Machine) (s : ℤ) (xs : List ℕ) → WhenNone (Given (placeNumber m)) (run (stepOf t) (live m s) xs)
@@ -66,3 +68,4 @@ module _ (t : Own) where
   close-reason (Logical m) = none-carried Logical (λ (d : Reason). d ≡ Class255) _ (logical-laws.close-reason (lentTo t) m)
   close-reason (Visual m) = none-carried Visual (λ (d : Reason). d ≡ Class255) _ (visual-laws.close-reason (lentTo t) m)
   close-reason (ArabicFrench m) = none-carried ArabicFrench (λ (d : Reason). d ≡ Class255) _ (arabicFrench-laws.close-reason (lentTo t) m)
+  close-reason (ShiftJis m) = none-carried ShiftJis (λ (d : Reason). d ≡ CutAtClose) _ (shiftJis-laws.close-reason m)

@@ -11,9 +11,10 @@ use Rattle.caseless.specs.Caseless as caseless
 use Rattle.logical.specs.Logical as logical
 use Rattle.visual.specs.Visual as visual
 use Rattle.logical.specs.declared.Logical.{Logical as LogicalRecord}
+use Rattle.shift_jis.specs.ShiftJis as shiftJis
 use Rattle.utf8.specs.Utf8 as utf-8
 use Rattle.kinds.specs.declared.machine.Machine.{Machine}
-use Rattle.kinds.specs.declared.machine.Machine.the-variants.{Utf8, Iso2022Jp, EucKr, Big5, Caseless, Logical, Visual, ArabicFrench}
+use Rattle.kinds.specs.declared.machine.Machine.the-variants.{Utf8, Iso2022Jp, EucKr, Big5, Caseless, Logical, Visual, ArabicFrench, ShiftJis}
 
 -- the end of the stream is a space to it, one byte more
 abbrev pub takesSpace : Machine → Bool
@@ -25,6 +26,7 @@ takesSpace (Caseless m) = true
 takesSpace (Logical m) = true
 takesSpace (Visual m) = true
 takesSpace (ArabicFrench m) = true
+takesSpace (ShiftJis m) = false
 
 -- the bytes that it has seen at most, of a stream of n that is closed or not
 unfoldable pub reachOf : Machine → ℕ → Bool → ℕ
@@ -39,6 +41,7 @@ SoundFor n reach (Caseless m) = (m .«longest_word» ≤ n) × caseless.Sound re
 SoundFor n reach (Logical m) = (m .«plausible_punctuation» ≤ n) × ((m .«longest_word» ≤ n) × logical.Sound reach m)
 SoundFor n reach (Visual m) = (m .«longest_word» ≤ n) × visual.Sound reach m
 SoundFor n reach (ArabicFrench m) = (m .«longest_word» ≤ n) × arabicFrench.Sound reach m
+SoundFor n reach (ShiftJis m) = shiftJis.Sound m
 
 unfoldable pub soundLogicalB : ℕ → ℕ → LogicalRecord → Bool
 soundLogicalB n reach m = leb (m .«plausible_punctuation») n && (leb (m .«longest_word») n && logical.soundB reach m)
@@ -52,3 +55,4 @@ soundB n reach (Caseless m) = leb (m .«longest_word») n && caseless.soundB rea
 soundB n reach (Logical m) = soundLogicalB n reach m
 soundB n reach (Visual m) = leb (m .«longest_word») n && visual.soundB reach m
 soundB n reach (ArabicFrench m) = leb (m .«longest_word») n && arabicFrench.soundB reach m
+soundB n reach (ShiftJis m) = shiftJis.soundB m

@@ -40,14 +40,16 @@ use Rattle.visual.specs.declared.Visual.{Visual as VisualRecord}
 use Rattle.arabic_french.specs.ArabicFrench as arabicFrench
 use Rattle.arabic_french.specs.ArabicFrenchLaws as arabicFrench-laws
 use Rattle.arabic_french.specs.declared.ArabicFrench.{ArabicFrench as ArabicFrenchRecord}
+use Rattle.shift_jis.specs.ShiftJis as shiftJis
+use Rattle.shift_jis.specs.ShiftJisLaws as shiftJis-laws
 use Rattle.utf8.specs.Utf8 as utf-8
 use Rattle.utf8.specs.Utf8Laws as utf-8-laws
 use Rattle.kinds.specs.Kinds.{freshOf, stepOf, closeOf, WeighedIn}
-use Rattle.kinds.specs.KindsLaws.{run-utf-8, run-iso2022jp, run-euckr, run-big5, run-caseless, run-logical, run-visual, run-arabicFrench, utf-8-still, iso2022jp-still}
+use Rattle.kinds.specs.KindsLaws.{run-utf-8, run-iso2022jp, run-euckr, run-big5, run-caseless, run-logical, run-visual, run-arabicFrench, run-shiftJis, utf-8-still, iso2022jp-still, shiftJis-still}
 use Rattle.kinds.specs.Sound.{reachOf, SoundFor, soundLogicalB, soundB}
 use Rattle.tables.specs.Own.{Own, lentTo}
 use Rattle.kinds.specs.declared.machine.Machine.{Machine}
-use Rattle.kinds.specs.declared.machine.Machine.the-variants.{Utf8, Iso2022Jp, EucKr, Big5, Caseless, Logical, Visual, ArabicFrench}
+use Rattle.kinds.specs.declared.machine.Machine.the-variants.{Utf8, Iso2022Jp, EucKr, Big5, Caseless, Logical, Visual, ArabicFrench, ShiftJis}
 
 -- ---- the test decides, in both directions
 module _ (n reach : ℕ) where
@@ -61,6 +63,7 @@ module _ (n reach : ℕ) where
   sound-true (Logical m) e = let h = both _ _ e in let i = both _ _ (h .1) in (leb-true _ _ (h .0), (leb-true _ _ (i .0), logical-laws.sound-true reach m (i .1)))
   sound-true (Visual m) e = let h = both _ _ e in (leb-true _ _ (h .0), visual-laws.sound-true reach m (h .1))
   sound-true (ArabicFrench m) e = let h = both _ _ e in (leb-true _ _ (h .0), arabicFrench-laws.sound-true reach m (h .1))
+  sound-true (ShiftJis m) e = shiftJis-laws.sound-true m e
 
   pub true-sound : (m : Machine) → SoundFor n reach m → soundB n reach m ≡ true
   unfolding soundB soundLogicalB
@@ -72,6 +75,7 @@ module _ (n reach : ℕ) where
   true-sound (Logical m) o = rw (le-leb _ _ (o .0), le-leb _ _ (o .1 .0), logical-laws.true-sound reach m (o .1 .1))
   true-sound (Visual m) o = rw (le-leb _ _ (o .0), visual-laws.true-sound reach m (o .1))
   true-sound (ArabicFrench m) o = rw (le-leb _ _ (o .0), arabicFrench-laws.true-sound reach m (o .1))
+  true-sound (ShiftJis m) o = shiftJis-laws.true-sound m o
 
 -- ---- more bytes
 pub sound-more : (n k reach far : ℕ) (m : Machine) → n ≤ k → reach ≤ far → SoundFor n reach m → SoundFor k far m
@@ -83,6 +87,7 @@ sound-more n k reach far (Caseless m) h i o = (omega (arith, o .0), caseless-law
 sound-more n k reach far (Logical m) h i o = (omega (arith, o .0), (omega (arith, o .1 .0), logical-laws.sound-more reach far m i (o .1 .1)))
 sound-more n k reach far (Visual m) h i o = (omega (arith, o .0), visual-laws.sound-more reach far m i (o .1))
 sound-more n k reach far (ArabicFrench m) h i o = (omega (arith, o .0), arabicFrench-laws.sound-more reach far m i (o .1))
+sound-more n k reach far (ShiftJis m) h i o = o
 
 -- ---- fresh machines
 pub fresh-sound : (n reach : ℕ) (m : Machine) → SoundFor n reach (freshOf m)
@@ -98,6 +103,7 @@ fresh-sound n reach (Caseless m) = (omega arith, start)
 fresh-sound n reach (Logical m) = (omega arith, (omega arith, record { punctuation-most = omega arith; common = record { prev-below = omega arith; word-most = omega arith; longest-most = omega arith } }))
 fresh-sound n reach (Visual m) = (omega arith, record { punctuation-most = omega arith; common = record { prev-below = omega arith; word-most = omega arith; longest-most = omega arith } })
 fresh-sound n reach (ArabicFrench m) = (omega arith, record { prev-below = omega arith; word-most = omega arith; longest-most = omega arith })
+fresh-sound n reach (ShiftJis m) = shiftJis-laws.fresh-sound
 
 -- ---- a stretch
 ends-holds : {S : Type 0} (P : S → Type 0) (s : ℤ) (o : Outcome S) → Ends P s o → Holds P o
@@ -138,6 +144,8 @@ module _ (t : Own) (n : ℕ) (xs : List ℕ) where
   run-sound (ArabicFrench m) w o =
       let l = lentTo t in
       lifted ArabicFrench m (arabicFrench.stepOf l) (run-arabicFrench t (pos 0) xs m) (holds-more (arabicFrench.Sound total) (λ (k : ArabicFrenchRecord). SoundFor total total (ArabicFrench k)) (run (arabicFrench.stepOf l) (live m (pos 0)) xs) (λ (k : ArabicFrenchRecord) (h : arabicFrench.Sound total k). (h .longest-most, h)) (run-holds (arabicFrench.stepOf l) arabicFrench.Sound (λ (k : ℕ) (x : ArabicFrenchRecord) (b : ℕ) (h : arabicFrench.Sound k x). holds-all (arabicFrench.Sound (k + 1)) (arabicFrench.stepOf l x b) (λ (y : ArabicFrenchRecord) (s : ℤ) e. arabicFrench-laws.sound-next l x b k y s h e)) n (live m (pos 0)) xs (o .1)))
+  run-sound (ShiftJis m) w o =
+      lifted ShiftJis m (shiftJis.stepOf (t .index)) (run-shiftJis t (pos 0) xs m) (ends-holds shiftJis.Sound (pos 0) (run (shiftJis.stepOf (t .index)) (live m (pos 0)) xs) (shiftJis-laws.run-keeps (t .index) m (pos 0) xs o))
 
 -- ---- the end of the stream
 longest-kept : (n word longest : ℕ) (a : Bool) → word ≤ n → longest ≤ n → longestOf word longest a ≤ n
@@ -204,3 +212,4 @@ module _ (t : Own) (n : ℕ) where
   close-sound (ArabicFrench m) o =
       let l = lentTo t in
       holds-carried ArabicFrench (SoundFor n (n + 1)) (arabicFrench.closeOf l m) (holds-all (λ (k : ArabicFrenchRecord). SoundFor n (n + 1) (ArabicFrench k)) (arabicFrench.closeOf l m) (λ (k : ArabicFrenchRecord) (g : ℤ) e. end-arabicFrench l n m k g o e))
+  close-sound (ShiftJis m) o = holds-carried ShiftJis (SoundFor n n) (shiftJis.closeOf m) (ends-holds shiftJis.Sound (pos 0) (shiftJis.closeOf m) (shiftJis-still m o))

@@ -1,11 +1,11 @@
-// One machine of the eight, under its kind: what a stretch of bytes and the end of the stream make of it.
+// One machine of the nine, under its kind: what a stretch of bytes and the end of the stream make of it.
 ghost use mathlib.Core.List.{[]};
 ghost use mathlib.Core.Path.{_≡_};
 ghost use Prim.Native.Nat.{_*_};
 ghost use lib.ListN.{length};
 ghost use Rattle.weights.specs.Weights.{perByte};
 ghost use Rattle.tables.specs.Own.{own};
-ghost use Rattle.kinds.specs.Kinds.{placeNumber, freshOf, ofUtf8, ofIso2022Jp, ofEucKr, ofBig5, ofCaseless, ofLogical, ofVisual, ofArabicFrench, closedOf, ranAt, decodedEnd, Bounded, Weighed};
+ghost use Rattle.kinds.specs.Kinds.{placeNumber, freshOf, ofUtf8, ofIso2022Jp, ofEucKr, ofBig5, ofCaseless, ofLogical, ofVisual, ofArabicFrench, ofShiftJis, closedOf, ranAt, decodedEnd, Bounded, Weighed};
 use arabic_french::ArabicFrench;
 use big5;
 use big5::Big5;
@@ -16,6 +16,8 @@ use iso2022jp;
 use iso2022jp::Iso2022Jp;
 use laws::Reason;
 use logical::Logical;
+use shift_jis;
+use shift_jis::ShiftJis;
 use utf8;
 use utf8::Utf8;
 use visual::Visual;
@@ -29,6 +31,7 @@ pub enum Machine {
     Logical(Logical),
     Visual(Visual),
     ArabicFrench(ArabicFrench),
+    ShiftJis(ShiftJis),
 }
 
 // The machine after a stretch of bytes or the end of the stream, and by how much its score changed; or why it dropped out, and
@@ -127,6 +130,16 @@ fn of_arabic_french(r: arabic_french::Ran) -> Ran
     }
 }
 
+fn of_shift_jis(r: shift_jis::Ran) -> Ran
+    ensures { λ r2. ⌜ r2 ≡ ofShiftJis r ⌝ }
+{
+    match r {
+        shift_jis::Ran::Live(m) => Ran::Live(Machine::ShiftJis(m), 0),
+        shift_jis::Ran::Dropped(reason, at) => Ran::Dropped(reason, at),
+        shift_jis::Ran::Unfit => Ran::Unfit,
+    }
+}
+
 impl Machine {
     // The number of the place that holds machines of this kind.
     pub fn place_number(self) -> usize
@@ -141,6 +154,7 @@ impl Machine {
             Machine::Logical(_) => 5,
             Machine::Visual(_) => 6,
             Machine::ArabicFrench(_) => 7,
+            Machine::ShiftJis(_) => 8,
         }
     }
 
@@ -157,6 +171,7 @@ impl Machine {
             Machine::Logical(_) => Machine::Logical(Logical::fresh()),
             Machine::Visual(_) => Machine::Visual(Visual::fresh()),
             Machine::ArabicFrench(_) => Machine::ArabicFrench(ArabicFrench::fresh()),
+            Machine::ShiftJis(_) => Machine::ShiftJis(ShiftJis::fresh()),
         }
     }
 
@@ -182,6 +197,7 @@ impl Machine {
             Machine::Logical(m) => of_logical(m.close(classes, marks, pairs, weights)),
             Machine::Visual(m) => of_visual(m.close(classes, marks, pairs, weights)),
             Machine::ArabicFrench(m) => of_arabic_french(m.close(classes, marks, pairs, weights)),
+            Machine::ShiftJis(m) => of_shift_jis(m.close()),
         }
     }
 
@@ -309,6 +325,18 @@ impl Machine {
         of_arabic_french(m.run(part, classes, marks, pairs, weights))
     }
 
+    // The Shift_JIS machine alone; one of another kind is not fit.
+    pub fn run_shift_jis(self, part: &[u8], index: &[u32]) -> Ran
+        ensures { λ r. ⌜ r ≡ ranAt 8 (own [] [] [] (now (index .entry)) [] []) self (now (part .entry)) ⌝ }
+        ensures { λ r. ⌜ Bounded (perByte * length (now (part .entry))) r ⌝ }
+        ensures { λ r. ⌜ Weighed self [] r ⌝ }
+    {
+        let Machine::ShiftJis(m) = self else {
+            return Ran::Unfit;
+        };
+        of_shift_jis(m.run(part, index))
+    }
+
     // The end of the stream of a decoder's machine; to the others it is a space, and this is no answer.
     pub fn close_decoder(self) -> Ran
         ensures { λ r. ⌜ r ≡ decodedEnd self ⌝ }
@@ -322,6 +350,7 @@ impl Machine {
             Machine::Logical(_) => Ran::Unfit,
             Machine::Visual(_) => Ran::Unfit,
             Machine::ArabicFrench(_) => Ran::Unfit,
+            Machine::ShiftJis(m) => of_shift_jis(m.close()),
         }
     }
 }

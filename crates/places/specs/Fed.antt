@@ -1,9 +1,9 @@
 -- What the code makes of places that may hold anything: each place's machine is asked, and its answer settles the place. In a
 -- state in order it is what `feedAll` says (FedLaws).
+use mathlib.Core.Path.{_≡_}
 use mathlib.Core.Bool.{Bool, true, false, cond}
 use mathlib.Core.List.{List, [], _∷_}
-use Prim.Native.Nat.{ℕ, suc, _+_, _-_, _*_, _%_, _^_, _≤_}
-use lib.Dec.{ltb}
+use Prim.Native.Nat.{ℕ, suc, _+_, _-_, _*_, _%_, _^_}
 use lib.IntN.{ℤ}
 use lib.ListN.{length, getD}
 use Rattle.laws.specs.Each.{EachFrom}
@@ -18,12 +18,13 @@ use Rattle.arabic_french.specs.ArabicFrench as arabicFrench
 use Rattle.caseless.specs.Caseless as caseless
 use Rattle.logical.specs.Logical as logical
 use Rattle.visual.specs.Visual as visual
+use Rattle.shift_jis.specs.ShiftJis as shiftJis
 use Rattle.utf8.specs.Utf8 as utf-8
-use Rattle.kinds.specs.Kinds.{freshOf, ranAt, decodedEnd, Bounded, Weighed}
+use Rattle.kinds.specs.Kinds.{isSingle, freshOf, ranAt, decodedEnd, Bounded, Weighed}
 use Rattle.tables.specs.Own.{Own, ownOf}
 use Rattle.tables.specs.Tables.{Tables}
 use Rattle.kinds.specs.declared.machine.Machine.{Machine}
-use Rattle.kinds.specs.declared.machine.Machine.the-variants.{Utf8, Iso2022Jp, EucKr, Big5, Caseless, Logical, Visual, ArabicFrench}
+use Rattle.kinds.specs.declared.machine.Machine.the-variants.{Utf8, Iso2022Jp, EucKr, Big5, Caseless, Logical, Visual, ArabicFrench, ShiftJis}
 use Rattle.kinds.specs.declared.machine.Ran.{Ran}
 use Rattle.kinds.specs.declared.machine.Ran.the-variants as ran
 use Rattle.places.specs.Place.{place}
@@ -35,7 +36,7 @@ use Rattle.places.specs.declared.place.Score.the-variants.{None, Live}
 -- the fresh machine of each place's kind
 abbrev pub freshes : List Machine
 freshes =
-    Utf8 utf-8.fresh ∷ Iso2022Jp iso2022jp.fresh ∷ EucKr euckr.fresh ∷ Big5 big5.fresh ∷ Caseless caseless.fresh ∷ Logical logical.fresh ∷ Visual visual.fresh ∷ ArabicFrench arabicFrench.fresh ∷ []
+    Utf8 utf-8.fresh ∷ Iso2022Jp iso2022jp.fresh ∷ EucKr euckr.fresh ∷ Big5 big5.fresh ∷ Caseless caseless.fresh ∷ Logical logical.fresh ∷ Visual visual.fresh ∷ ArabicFrench arabicFrench.fresh ∷ ShiftJis shiftJis.fresh ∷ []
 
 abbrev pub freshAt : ℕ → Machine
 freshAt k = getD freshes k (Utf8 utf-8.fresh)
@@ -63,9 +64,9 @@ decoderEnded body p = settledFrom (freshOf (p .machine)) body 0 (decodedEnd (p .
 abbrev pub past : ℕ → ℕ
 past body = (body + 1) % 2 ^ 64
 
--- to place k: the first four are decoders', and to the others it is a space
+-- to place k: to the single-byte machines it is a space
 abbrev pub endedAs : ℕ → Own → ℕ → Place → Place
-endedAs k t body p = cond (ltb k 4) (decoderEnded body p) (fedAs k t (past body) (space ∷ []) p)
+endedAs k t body p = cond (isSingle k) (fedAs k t (past body) (space ∷ []) p) (decoderEnded body p)
 
 -- ---- all places, each over its own tables, the first one's number being k
 unfoldable pub fedEachFrom : Tables → ℕ → List ℕ → ℕ → List Place → List Place
@@ -103,7 +104,7 @@ AllKnown t xs ps = EachFrom (λ (k : ℕ) (p : Place). KnownFed k (ownOf t k) xs
 
 -- of the places to which the end is a space
 abbrev pub KnownEnd : ℕ → Own → Place → Type 0
-KnownEnd k t p = 4 ≤ k → KnownFed k t (space ∷ []) p
+KnownEnd k t p = isSingle k ≡ true → KnownFed k t (space ∷ []) p
 
 abbrev pub EndKnown : Tables → List Place → Type 0
 EndKnown t ps = EachFrom (λ (k : ℕ) (p : Place). KnownEnd k (ownOf t k) p) 0 ps

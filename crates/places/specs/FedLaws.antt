@@ -5,10 +5,9 @@ use mathlib.Core.List.{List, [], _∷_}
 use Prim.Native.Nat.{ℕ, suc, _+_, _-_, _*_, _^_, _<_, _≤_}
 use native.Mathlib.Nat.{mul-le-mul-left}
 use native.Mathlib.Omega.{arith}
-use lib.Dec.{eqb, ltb}
 use lib.IntN.{ℤ, pos, natAbs}
 use lib.ListN.{length, getD}
-use borrow.Author.Tests.{eq-eqb, ltb-true, ltb-false}
+use borrow.Author.Tests.{eq-eqb}
 use Rattle.laws.specs.Each.{EachFrom}
 use Rattle.laws.specs.Limit.{limit}
 use Rattle.laws.specs.Run.{live, plus, run, run-one, ends-one}
@@ -18,15 +17,15 @@ use Rattle.signed.specs.Sum.{sumOf}
 use Rattle.single.specs.Class.{space}
 use Rattle.weights.specs.Weights.{perByte}
 use Rattle.kinds.specs.KindLaws.{reach-open}
-use Rattle.kinds.specs.Kinds.{placeNumber, freshOf, stepOf, closeOf, ranAs, ranOf, closedOf, ranAt, decodedEnd, Bounded, Weighed}
+use Rattle.kinds.specs.Kinds.{placeNumber, isSingle, freshOf, stepOf, closeOf, ranAs, ranOf, closedOf, ranAt, decodedEnd, Bounded, Weighed}
 use Rattle.kinds.specs.KindsLaws.{ran-fit, closed-fit}
 use Rattle.kinds.specs.Sound.{SoundFor}
 use Rattle.kinds.specs.SoundLaws.{sound-more}
-use Rattle.tables.specs.Own.{Own, ownOf, SizedAt}
+use Rattle.tables.specs.Own.{Own, placeCount, ownOf, SizedAt}
 use Rattle.tables.specs.OwnLaws.{own-sized}
 use Rattle.tables.specs.Tables.{Tables, Sized}
 use Rattle.kinds.specs.declared.machine.Machine.{Machine}
-use Rattle.kinds.specs.declared.machine.Machine.the-variants.{Utf8, Iso2022Jp, EucKr, Big5, Caseless, Logical, Visual, ArabicFrench}
+use Rattle.kinds.specs.declared.machine.Machine.the-variants.{Utf8, Iso2022Jp, EucKr, Big5, Caseless, Logical, Visual, ArabicFrench, ShiftJis}
 use Rattle.kinds.specs.declared.machine.Ran.{Ran}
 use Rattle.kinds.specs.declared.machine.Ran.the-variants as ran
 use Rattle.places.specs.Fed.{freshAt, past, settledOf, settledFrom, fedAs, decoderEnded, endedAs, fedEachFrom, fedEach, endedEachFrom, endedEach, slateFed, KnownRan, KnownFrom, KnownFed, AllKnown, KnownEnd, EndKnown, SlateKnown}
@@ -36,7 +35,7 @@ use Rattle.places.specs.OrderLaws.{BoundedOut, KnownRun, bounded-more, d
 use Rattle.places.specs.Place.{place, placeAs, endAt, endOf, feedOf}
 use Rattle.places.specs.PlaceLaws.{feed-none, feed-open, end-none, end-live, bounded-out, settled-as, fed-way, kept-none, kept-open, kept-last, ended-none}
 use Rattle.places.specs.Slate.{placeAt, feedFrom, feedAll}
-use Rattle.places.specs.SlateLaws.{place-read, joined, listed, eight, slate-more}
+use Rattle.places.specs.SlateLaws.{place-read, joined, listed, is-listed, slate-more}
 use Rattle.places.specs.Steps.{BoundedScore, FitPart}
 use Rattle.places.specs.declared.place.Place.{Place}
 use Rattle.places.specs.declared.place.Score.{Score}
@@ -53,62 +52,68 @@ fresh-number (Caseless m) = refl
 fresh-number (Logical m) = refl
 fresh-number (Visual m) = refl
 fresh-number (ArabicFrench m) = refl
+fresh-number (ShiftJis m) = refl
 
-below-eight : (m : Machine) → placeNumber m < 8
-below-eight (Utf8 m) = omega arith
-below-eight (Iso2022Jp m) = omega arith
-below-eight (EucKr m) = omega arith
-below-eight (Big5 m) = omega arith
-below-eight (Caseless m) = omega arith
-below-eight (Logical m) = omega arith
-below-eight (Visual m) = omega arith
-below-eight (ArabicFrench m) = omega arith
+below-count : (m : Machine) → placeNumber m < placeCount
+below-count (Utf8 m) = omega arith
+below-count (Iso2022Jp m) = omega arith
+below-count (EucKr m) = omega arith
+below-count (Big5 m) = omega arith
+below-count (Caseless m) = omega arith
+below-count (Logical m) = omega arith
+below-count (Visual m) = omega arith
+below-count (ArabicFrench m) = omega arith
+below-count (ShiftJis m) = omega arith
 
 -- ---- the end of the stream, as each kind takes it
 module _ (t : Own) where
-  decoder-closed : (m : Machine) → placeNumber m < 4 → decodedEnd m ≡ closedOf t m
+  decoder-closed : (m : Machine) → isSingle (placeNumber m) ≡ false → decodedEnd m ≡ closedOf t m
   unfolding closedOf
   decoder-closed (Utf8 m) h = refl
   decoder-closed (Iso2022Jp m) h = refl
   decoder-closed (EucKr m) h = refl
   decoder-closed (Big5 m) h = refl
-  decoder-closed (Caseless m) h = absurd (omega (arith, h))
-  decoder-closed (Logical m) h = absurd (omega (arith, h))
-  decoder-closed (Visual m) h = absurd (omega (arith, h))
-  decoder-closed (ArabicFrench m) h = absurd (omega (arith, h))
+  decoder-closed (Caseless m) h = cc
+  decoder-closed (Logical m) h = cc
+  decoder-closed (Visual m) h = cc
+  decoder-closed (ArabicFrench m) h = cc
+  decoder-closed (ShiftJis m) h = refl
 
   -- a space is what the end is to the others
-  space-closed : (m : Machine) → 4 ≤ placeNumber m → stepOf t m space ≡ closeOf t m
+  space-closed : (m : Machine) → isSingle (placeNumber m) ≡ true → stepOf t m space ≡ closeOf t m
   unfolding stepOf closeOf
-  space-closed (Utf8 m) h = absurd (omega (arith, h))
-  space-closed (Iso2022Jp m) h = absurd (omega (arith, h))
-  space-closed (EucKr m) h = absurd (omega (arith, h))
-  space-closed (Big5 m) h = absurd (omega (arith, h))
+  space-closed (Utf8 m) h = cc
+  space-closed (Iso2022Jp m) h = cc
+  space-closed (EucKr m) h = cc
+  space-closed (Big5 m) h = cc
   space-closed (Caseless m) h = refl
   space-closed (Logical m) h = refl
   space-closed (Visual m) h = refl
   space-closed (ArabicFrench m) h = refl
+  space-closed (ShiftJis m) h = cc
 
 -- the end's place, by what the answer says: no byte of an empty part, or the space
-decoder-at : (b : ℕ) (m : Machine) → placeNumber m < 4 → b - (0 - 0 - 1) ≡ endAt m b
+decoder-at : (b : ℕ) (m : Machine) → isSingle (placeNumber m) ≡ false → b - (0 - 0 - 1) ≡ endAt m b
 decoder-at b (Utf8 m) h = omega arith
 decoder-at b (Iso2022Jp m) h = omega arith
 decoder-at b (EucKr m) h = omega arith
 decoder-at b (Big5 m) h = omega arith
-decoder-at b (Caseless m) h = absurd (omega (arith, h))
-decoder-at b (Logical m) h = absurd (omega (arith, h))
-decoder-at b (Visual m) h = absurd (omega (arith, h))
-decoder-at b (ArabicFrench m) h = absurd (omega (arith, h))
+decoder-at b (Caseless m) h = cc
+decoder-at b (Logical m) h = cc
+decoder-at b (Visual m) h = cc
+decoder-at b (ArabicFrench m) h = cc
+decoder-at b (ShiftJis m) h = omega arith
 
-single-at : (b : ℕ) (m : Machine) → 4 ≤ placeNumber m → b ≤ limit → past b - (1 - 0 - 1) ≡ endAt m b
-single-at b (Utf8 m) h l = absurd (omega (arith, h))
-single-at b (Iso2022Jp m) h l = absurd (omega (arith, h))
-single-at b (EucKr m) h l = absurd (omega (arith, h))
-single-at b (Big5 m) h l = absurd (omega (arith, h))
+single-at : (b : ℕ) (m : Machine) → isSingle (placeNumber m) ≡ true → b ≤ limit → past b - (1 - 0 - 1) ≡ endAt m b
+single-at b (Utf8 m) h l = cc
+single-at b (Iso2022Jp m) h l = cc
+single-at b (EucKr m) h l = cc
+single-at b (Big5 m) h l = cc
 single-at b (Caseless m) h l = omega arith
 single-at b (Logical m) h l = omega arith
 single-at b (Visual m) h l = omega arith
 single-at b (ArabicFrench m) h l = omega arith
+single-at b (ShiftJis m) h l = cc
 
 -- ---- a place in order, over tables of its own lengths
 score-bounded : (n b k : ℕ) (m : Machine) (c : Score) → n ≤ limit → ScoredFor n b false true k m c → BoundedScore (perByte * limit) c
@@ -179,7 +184,7 @@ module _ (k : ℕ) (t : Own) (sized : SizedAt k t) (n b : ℕ) (p : Place) (o : 
         let c = closeOf t (p .machine) in
         (ap (λ (x : Machine). settledOf x z body bytes r) g ∙ (ap (settledOf (freshOf m) z body bytes) i ∙ (settled-as m z body bytes at c perByte h (score-small z e) ∙ (ap (λ (j : ℕ). placeAs m j (plus z c)) q ∙ end-live t b p z e))), record { kept = λ (j i : ℕ) x. end-for t j b i p h x })
 
-    decoder-way : placeNumber (p .machine) < 4 → (decoderEnded b p ≡ endOf t b p) × Ended t b p
+    decoder-way : isSingle (placeNumber (p .machine)) ≡ false → (decoderEnded b p ≡ endOf t b p) × Ended t b p
     unfolding settledFrom
     decoder-way l = by (p .score) refl
       where
@@ -192,12 +197,12 @@ module _ (k : ℕ) (t : Own) (sized : SizedAt k t) (n b : ℕ) (p : Place) (o : 
             end-live-as z e (freshOf m) refl (decodedEnd m) b 0 0 (decoder-closed t m l ∙ c) (decoder-at b m l) (bounded-more 0 perByte (closeOf t m) (omega arith) (decoder-end t n m l s))
 
     -- the answer to a space is the answer to the end
-    space-ran : 4 ≤ placeNumber (p .machine) → ranAt k t (p .machine) (space ∷ []) ≡ ranAs 0 (closeOf t (p .machine))
+    space-ran : isSingle (placeNumber (p .machine)) ≡ true → ranAt k t (p .machine) (space ∷ []) ≡ ranAs 0 (closeOf t (p .machine))
     space-ran l =
         let m = p .machine in
         ran-own (space ∷ []) ∙ (ran-fit t (space ∷ []) (omega arith) m own-lengths (sound-limit most) ∙ (ap (λ (i : ℕ). ranAs (i - 1) (run (stepOf t) (live m (pos 0)) (space ∷ []))) (ends-one (stepOf t) m space) ∙ ap (ranAs 0) (run-one (stepOf t) m space ∙ space-closed t m l)))
 
-    single-way : 4 ≤ placeNumber (p .machine) → KnownFed k t (space ∷ []) p → (fedAs k t (past b) (space ∷ []) p ≡ endOf t b p) × Ended t b p
+    single-way : isSingle (placeNumber (p .machine)) ≡ true → KnownFed k t (space ∷ []) p → (fedAs k t (past b) (space ∷ []) p ≡ endOf t b p) × Ended t b p
     unfolding settledFrom
     single-way l known = by (p .score) refl known
       where
@@ -209,11 +214,11 @@ module _ (k : ℕ) (t : Own) (sized : SizedAt k t) (n b : ℕ) (p : Place) (o : 
             end-live-as z e (freshAt k) fresh-own (ranAt k t (p .machine) (space ∷ [])) (past b) 1 0 (space-ran l) (single-at b m l few) (bounded-out perByte 0 (closeOf t m) (rw (space-ran l) at h))
 
     pub end-fed : KnownEnd k t p → (endedAs k t b p ≡ endOf t b p) × Ended t b p
-    end-fed known = by (ltb k 4) refl
+    end-fed known = by (isSingle k) refl
       where
-        by : (l : Bool) → ltb k 4 ≡ l → (cond l (decoderEnded b p) (fedAs k t (past b) (space ∷ []) p) ≡ endOf t b p) × Ended t b p
-        by true e = decoder-way (rw (o .kind) (ltb-true k 4 e))
-        by false e = single-way (rw (o .kind) (ltb-false k 4 e)) (known (ltb-false k 4 e))
+        by : (l : Bool) → isSingle k ≡ l → (cond l (fedAs k t (past b) (space ∷ []) p) (decoderEnded b p) ≡ endOf t b p) × Ended t b p
+        by true e = single-way (rw (o .kind) e) (known e)
+        by false e = decoder-way (rw (o .kind) e)
 
 -- ---- a part that is the last one
 module _ (k : ℕ) (t : Own) (sized : SizedAt k t) (n b : ℕ) (p : Place) (o : PlaceFor n b false true k p) (body : ℕ) (more : b ≤ body) (few : body ≤ limit) (xs : List ℕ) (short : n + length xs ≤ limit) where
@@ -236,7 +241,7 @@ module _ (k : ℕ) (t : Own) (sized : SizedAt k t) (n b : ℕ) (p : Place) (o : 
 -- ---- all places
 module _ (t : Tables) (z : Sized t) (n b : ℕ) (body : ℕ) (more : b ≤ body) (few : body ≤ limit) (xs : List ℕ) (short : n + length xs ≤ limit) where
   sized-at : (k : ℕ) (p : Place) → PlaceFor n b false true k p → SizedAt k (ownOf t k)
-  sized-at k p o = own-sized t z k (rw (o .kind) at (below-eight (p .machine)))
+  sized-at k p o = own-sized t z k (rw (o .kind) at (below-count (p .machine)))
 
   each-part : (k : ℕ) (ps : List Place) → EachFrom (PlaceFor n b false true) k ps → EachFrom (λ (j : ℕ) (p : Place). KnownFed j (ownOf t j) xs p) k ps → (fedEachFrom t body xs k ps ≡ feedFrom t false body xs k ps) × EachFrom (λ (j : ℕ) (p : Place). Kept (ownOf t j) false body xs p) k ps
   unfolding fedEachFrom feedFrom
@@ -332,17 +337,17 @@ end-pairs t body k [] (q ∷ qs) f = absurd f
 end-pairs t body k (p ∷ ps) [] f = absurd f
 end-pairs t body k (p ∷ ps) (q ∷ qs) f = let r = end-pairs t body (suc k) ps qs (f .1) in (joined (f .0 .0) (r .0), (f .0 .1, r .1))
 
-module _ (t : Tables) (body : ℕ) (ps : List Place) (d : Place) (e : length ps ≡ 8) where
-  pub fed-eight : (xs : List ℕ) (qs : List Place) → FedPairs t body xs 0 (listed ps d) qs → (qs ≡ fedEach t body xs ps) × AllKnown t xs ps
-  fed-eight xs qs f = subst (λ (l : List Place). (qs ≡ fedEach t body xs l) × AllKnown t xs l) (sym (eight ps d e)) (fed-pairs t body xs 0 (listed ps d) qs f)
+module _ (t : Tables) (body : ℕ) (ps : List Place) (d : Place) (e : length ps ≡ placeCount) where
+  pub fed-listed : (xs : List ℕ) (qs : List Place) → FedPairs t body xs 0 (listed ps d) qs → (qs ≡ fedEach t body xs ps) × AllKnown t xs ps
+  fed-listed xs qs f = subst (λ (l : List Place). (qs ≡ fedEach t body xs l) × AllKnown t xs l) (sym (is-listed ps d e)) (fed-pairs t body xs 0 (listed ps d) qs f)
 
-  pub end-eight : (qs : List Place) → EndPairs t body 0 (listed ps d) qs → (qs ≡ endedEach t body ps) × EndKnown t ps
-  end-eight qs f = subst (λ (l : List Place). (qs ≡ endedEach t body l) × EndKnown t l) (sym (eight ps d e)) (end-pairs t body 0 (listed ps d) qs f)
+  pub end-listed : (qs : List Place) → EndPairs t body 0 (listed ps d) qs → (qs ≡ endedEach t body ps) × EndKnown t ps
+  end-listed qs f = subst (λ (l : List Place). (qs ≡ endedEach t body l) × EndKnown t l) (sym (is-listed ps d e)) (end-pairs t body 0 (listed ps d) qs f)
 
 -- the bytes of the head, and then a part
-pub fed-twice : (t : Tables) (body : ℕ) (ps : List Place) (d : Place) → length ps ≡ 8 → (xs ys : List ℕ) (qs rs : List Place) → FedPairs t 0 xs 0 (listed ps d) qs → FedPairs t body ys 0 qs rs → (rs ≡ fedEach t body ys (fedEach t 0 xs ps)) × (AllKnown t xs ps × AllKnown t ys (fedEach t 0 xs ps))
+pub fed-twice : (t : Tables) (body : ℕ) (ps : List Place) (d : Place) → length ps ≡ placeCount → (xs ys : List ℕ) (qs rs : List Place) → FedPairs t 0 xs 0 (listed ps d) qs → FedPairs t body ys 0 qs rs → (rs ≡ fedEach t body ys (fedEach t 0 xs ps)) × (AllKnown t xs ps × AllKnown t ys (fedEach t 0 xs ps))
 fed-twice t body ps d e xs ys qs rs f g =
-    let a = fed-eight t 0 ps d e xs qs f in
+    let a = fed-listed t 0 ps d e xs qs f in
     let b : (rs ≡ fedEach t body ys (fedEach t 0 xs ps)) × AllKnown t ys (fedEach t 0 xs ps) = subst (λ (l : List Place). (rs ≡ fedEach t body ys l) × AllKnown t ys l) (a .0) (fed-pairs t body ys 0 qs rs g) in
     (b .0, (a .1, b .1))
 

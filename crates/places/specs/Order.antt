@@ -1,10 +1,10 @@
 -- Which places a state in order can hold: after n bytes, `body` of them from the end of the head on, the stream closed or not, the
 -- places fed already or not.
 use mathlib.Core.Path.{_≡_}
-use mathlib.Core.Bool.{Bool, true, false, cond, _&&_, _||_}
+use mathlib.Core.Bool.{Bool, true, false, cond, not, _&&_, _||_}
 use mathlib.Core.List.{List}
 use Prim.Native.Nat.{ℕ, _+_, _*_, _≤_}
-use lib.Dec.{eqb, leb, ltb}
+use lib.Dec.{eqb, leb}
 use lib.IntN.{pos, natAbs}
 use Rattle.laws.specs.Each.{eachB, EachFrom}
 use Rattle.laws.specs.Limit.{limit}
@@ -12,7 +12,7 @@ use Rattle.laws.specs.declared.Reason.{Reason}
 use Rattle.laws.specs.declared.Reason.the-variants.{Class255, BadByte, BadSecondByte, BrokenEscape, CutAtClose, NotInSlate}
 use Rattle.weights.specs.Weights.{perByte}
 use Rattle.records.specs.Fresh.{freshB}
-use Rattle.kinds.specs.Kinds.{placeNumber, freshOf}
+use Rattle.kinds.specs.Kinds.{placeNumber, isSingle, freshOf}
 use Rattle.kinds.specs.Sound.{reachOf, SoundFor, soundB}
 use Rattle.kinds.specs.declared.machine.Machine.{Machine}
 use Rattle.places.specs.declared.place.Place.{Place}
@@ -27,11 +27,11 @@ spacedOf n closed = cond closed (n + 1) n
 -- what a place without a score can carry: a reason that its kind can give, before any trigger only 'not in the slate', and the
 -- place of a byte that has come; a cut only where the stream is closed, and at its end
 unfoldable pub droppedB : ℕ → Bool → Bool → ℕ → Reason → ℕ → Bool
-droppedB body closed fed k Class255 at = fed && (leb 4 k && leb at (spacedOf body closed))
-droppedB body closed fed k BadByte at = fed && (ltb k 4 && leb at body)
+droppedB body closed fed k Class255 at = fed && (isSingle k && leb at (spacedOf body closed))
+droppedB body closed fed k BadByte at = fed && (not (isSingle k) && leb at body)
 droppedB body closed fed k BadSecondByte at = fed && ((eqb k 2 || eqb k 3) && leb at body)
 droppedB body closed fed k BrokenEscape at = fed && (eqb k 1 && leb at body)
-droppedB body closed fed k CutAtClose at = fed && (ltb k 4 && (closed && eqb at body))
+droppedB body closed fed k CutAtClose at = fed && (not (isSingle k) && (closed && eqb at body))
 droppedB body closed fed k NotInSlate at = eqb at 0
 
 -- fresh where the score is none; else a score that no bound of so many bytes excludes

@@ -1,17 +1,16 @@
 -- The test of the places decides, and places stay in order.
 use mathlib.Core.Path.{_≡_, refl, sym, ap, subst, _∙_}
-use mathlib.Core.Bool.{Bool, true, false, cond, _&&_, _||_, and-false, and-true, and-comm}
+use mathlib.Core.Bool.{Bool, true, false, cond, not, _&&_, _||_, and-false, and-true, and-comm}
 use mathlib.Core.List.{List}
-use Prim.Native.Nat.{ℕ, _+_, _-_, _*_, _<_, _≤_}
+use Prim.Native.Nat.{ℕ, _+_, _-_, _*_, _≤_}
 use native.Mathlib.Nat.{mul-le-mul-left}
 use native.Mathlib.Omega.{arith}
-use lib.Dec.{eqb, leb, ltb}
+use lib.Dec.{eqb, leb}
 use lib.IntN.{ℤ, pos, negsuc, natAbs}
 use lib.ListN.{length}
 use borrow.Author.Tests.{eqb-true, eq-eqb, leb-true, leb-false, le-leb, lt-leb}
 use Rattle.laws.specs.Carried.{carried, Holds}
 use Rattle.laws.specs.Each.{each-true, true-each}
-use Rattle.laws.specs.Limit.{limit}
 use Rattle.laws.specs.Run.{Outcome, none, live, plus, run, endsAt, WhenNone, none-plus, none-more}
 use Rattle.laws.specs.declared.Reason.{Reason}
 use Rattle.laws.specs.declared.Reason.the-variants.{Class255, BadByte, BadSecondByte, BrokenEscape, CutAtClose, NotInSlate}
@@ -24,19 +23,20 @@ use Rattle.big5.specs.declared.Big5.{Big5 as Big5Record}
 use Rattle.euckr.specs.EucKr as euckr
 use Rattle.euckr.specs.declared.EucKr.{EucKr as EucKrRecord}
 use Rattle.iso2022jp.specs.Iso2022Jp as iso2022jp
+use Rattle.shift_jis.specs.ShiftJis as shiftJis
 use Rattle.utf8.specs.Utf8 as utf-8
 use Rattle.records.specs.Fresh.{freshB}
 use Rattle.records.specs.FreshLaws.{fresh-true, true-fresh}
 use Rattle.kinds.specs.KindLaws.{Alike, fresh-alike, alike-place, alike-reach, reach-open, run-alike, close-alike}
-use Rattle.kinds.specs.Kinds.{placeNumber, freshOf, stepOf, closeOf, WeighedIn}
-use Rattle.kinds.specs.KindsLaws.{utf-8-still, iso2022jp-still}
+use Rattle.kinds.specs.Kinds.{placeNumber, isSingle, freshOf, stepOf, closeOf, WeighedIn}
+use Rattle.kinds.specs.KindsLaws.{utf-8-still, iso2022jp-still, shiftJis-still}
 use Rattle.kinds.specs.Reasons.{byteReason, endReason}
 use Rattle.kinds.specs.ReasonsLaws.{run-reason, close-reason}
 use Rattle.kinds.specs.Sound.{takesSpace, reachOf, SoundFor, soundB}
 use Rattle.kinds.specs.SoundLaws.{sound-true, true-sound, sound-more, fresh-sound, run-sound, close-sound}
 use Rattle.tables.specs.Own.{Own}
 use Rattle.kinds.specs.declared.machine.Machine.{Machine}
-use Rattle.kinds.specs.declared.machine.Machine.the-variants.{Utf8, Iso2022Jp, EucKr, Big5, Caseless, Logical, Visual, ArabicFrench}
+use Rattle.kinds.specs.declared.machine.Machine.the-variants.{Utf8, Iso2022Jp, EucKr, Big5, Caseless, Logical, Visual, ArabicFrench, ShiftJis}
 use Rattle.places.specs.Order.{spacedOf, droppedB, ScoredFor, ZeroOrNone, FedOr, PlaceFor, SlateFor, scoredB, zeroOrNoneB, unfedB, placeB, slateB}
 use Rattle.places.specs.Place.{placeAs, byteAt, endAt, endFrom, endOf}
 use Rattle.places.specs.Steps.{askedIf, askedOf, answerOf}
@@ -107,7 +107,7 @@ module _ (n body : ℕ) (closed fed : Bool) where
   true-slate ps o = rw (le-leb _ _ (o .most), true-each (placeB n body closed fed) (PlaceFor n body closed fed) true-place 0 ps (o .each))
 
 -- ---- each way through the test of one place
-no-truth : false ≡ true → ⊥
+pub no-truth : false ≡ true → ⊥
 no-truth e = let q : _≡_ {A = ℕ} 0 1 = cc in omega arith
 
 fresh-then : (n reach : ℕ) (m : Machine) (b : Bool) → freshB m ≡ b → (soundB n reach m && b) ≡ b
@@ -212,13 +212,13 @@ last-two a b c e = both b c (both a (b && c) e .1)
 pub dropped-more : (b c : ℕ) (fed closed : Bool) (k : ℕ) (d : Reason) (at : ℕ) → b ≤ c → droppedB b false fed k d at ≡ true → droppedB c closed true k d at ≡ true
 unfolding droppedB
 dropped-more b c fed closed k Class255 at l e =
-    let h = last-two fed (leb 4 k) (leb at b) e in
+    let h = last-two fed (isSingle k) (leb at b) e in
     let q : at ≤ spacedOf c closed = omega (arith, leb-true at b (h .1), spaced-least c closed) in
     rw (h .0, le-leb at (spacedOf c closed) q)
-dropped-more b c fed closed k BadByte at l e = let h = last-two fed (ltb k 4) (leb at b) e in rw (h .0, le-leb at c (omega (arith, leb-true at b (h .1))))
+dropped-more b c fed closed k BadByte at l e = let h = last-two fed (not (isSingle k)) (leb at b) e in rw (h .0, le-leb at c (omega (arith, leb-true at b (h .1))))
 dropped-more b c fed closed k BadSecondByte at l e = let h = last-two fed (eqb k 2 || eqb k 3) (leb at b) e in rw (h .0, le-leb at c (omega (arith, leb-true at b (h .1))))
 dropped-more b c fed closed k BrokenEscape at l e = let h = last-two fed (eqb k 1) (leb at b) e in rw (h .0, le-leb at c (omega (arith, leb-true at b (h .1))))
-dropped-more b c fed closed k CutAtClose at l e = absurd (no-truth (last-two fed (ltb k 4) false e .1))
+dropped-more b c fed closed k CutAtClose at l e = absurd (no-truth (last-two fed (not (isSingle k)) false e .1))
 dropped-more b c fed closed k NotInSlate at l e = e
 
 -- what is not fed has dropped out for one reason, which it can have at any time
@@ -251,6 +251,7 @@ end-dropped body (Caseless m) = le-leb (body + 1) (body + 1) (omega arith)
 end-dropped body (Logical m) = le-leb (body + 1) (body + 1) (omega arith)
 end-dropped body (Visual m) = le-leb (body + 1) (body + 1) (omega arith)
 end-dropped body (ArabicFrench m) = le-leb (body + 1) (body + 1) (omega arith)
+end-dropped body (ShiftJis m) = eq-eqb body body refl
 
 pub scored-more : (a n b c : ℕ) (fed closed : Bool) (k : ℕ) (m : Machine) (s : Score) → a ≤ n → b ≤ c → ScoredFor a b false fed k m s → ScoredFor n c closed true k m s
 scored-more a n b c fed closed k m (None d at) h l o = (o .0, dropped-more b c fed closed k d at l (o .1))
@@ -347,27 +348,29 @@ module _ (t : Own) where
     pub within : n + more ≤ reachOf m n true
 
   -- a decoder's end changes no score
-  pub decoder-end : (n : ℕ) (m : Machine) → placeNumber m < 4 → SoundFor n n m → BoundedOut 0 (closeOf t m)
+  pub decoder-end : (n : ℕ) (m : Machine) → isSingle (placeNumber m) ≡ false → SoundFor n n m → BoundedOut 0 (closeOf t m)
   unfolding closeOf
   decoder-end n (Utf8 m) h o = ends-bounded utf-8.Sound Utf8 (utf-8.closeOf m) (utf-8-still m o)
   decoder-end n (Iso2022Jp m) h o = ends-bounded iso2022jp.Sound Iso2022Jp (iso2022jp.closeOf m) (iso2022jp-still m o)
   decoder-end n (EucKr m) h o = ends-bounded (λ (x : EucKrRecord). Unit {0}) EucKr (euckr.closeOf m) (either (Ends (λ (x : EucKrRecord). Unit {0}) (pos 0)) (eqb (m .lead) 0) (λ e. (tt, refl)) (λ e. tt))
   decoder-end n (Big5 m) h o = ends-bounded (λ (x : Big5Record). Unit {0}) Big5 (big5.closeOf m) (either (Ends (λ (x : Big5Record). Unit {0}) (pos 0)) (eqb (m .lead) 0) (λ e. (tt, refl)) (λ e. tt))
-  decoder-end n (Caseless m) h o = absurd (omega (arith, h))
-  decoder-end n (Logical m) h o = absurd (omega (arith, h))
-  decoder-end n (Visual m) h o = absurd (omega (arith, h))
-  decoder-end n (ArabicFrench m) h o = absurd (omega (arith, h))
+  decoder-end n (Caseless m) h o = absurd (no-truth (sym h))
+  decoder-end n (Logical m) h o = absurd (no-truth (sym h))
+  decoder-end n (Visual m) h o = absurd (no-truth (sym h))
+  decoder-end n (ArabicFrench m) h o = absurd (no-truth (sym h))
+  decoder-end n (ShiftJis m) h o = ends-bounded shiftJis.Sound ShiftJis (shiftJis.closeOf m) (shiftJis-still m o)
 
   room : (n : ℕ) (m : Machine) → SoundFor n n m → BoundedOut perByte (closeOf t m) → Room n m
   unfolding reachOf
-  room n (Utf8 m) o q = record { more = 0; small = decoder-end n (Utf8 m) (omega arith) o; within = omega arith }
-  room n (Iso2022Jp m) o q = record { more = 0; small = decoder-end n (Iso2022Jp m) (omega arith) o; within = omega arith }
-  room n (EucKr m) o q = record { more = 0; small = decoder-end n (EucKr m) (omega arith) o; within = omega arith }
-  room n (Big5 m) o q = record { more = 0; small = decoder-end n (Big5 m) (omega arith) o; within = omega arith }
+  room n (Utf8 m) o q = record { more = 0; small = decoder-end n (Utf8 m) refl o; within = omega arith }
+  room n (Iso2022Jp m) o q = record { more = 0; small = decoder-end n (Iso2022Jp m) refl o; within = omega arith }
+  room n (EucKr m) o q = record { more = 0; small = decoder-end n (EucKr m) refl o; within = omega arith }
+  room n (Big5 m) o q = record { more = 0; small = decoder-end n (Big5 m) refl o; within = omega arith }
   room n (Caseless m) o q = record { more = 1; small = q; within = omega arith }
   room n (Logical m) o q = record { more = 1; small = q; within = omega arith }
   room n (Visual m) o q = record { more = 1; small = q; within = omega arith }
   room n (ArabicFrench m) o q = record { more = 1; small = q; within = omega arith }
+  room n (ShiftJis m) o q = record { more = 0; small = decoder-end n (ShiftJis m) refl o; within = omega arith }
 
   reach-sum : (n : ℕ) (m : Machine) (z : ℤ) → natAbs z ≤ perByte * n → (r : Room n m) → BoundedOut (perByte * reachOf m n true) (plus z (closeOf t m))
   reach-sum n m z h r =

@@ -1,4 +1,4 @@
--- All eight places: what a start gives, and what a part of a chunk makes of them.
+-- All nine places: what a start gives, and what a part of a chunk makes of them.
 use mathlib.Core.Bool.{Bool, cond}
 use mathlib.Core.List.{List, [], _∷_}
 use Prim.Native.Nat.{ℕ, suc, _/_, _%_}
@@ -13,10 +13,11 @@ use Rattle.arabic_french.specs.ArabicFrench as arabicFrench
 use Rattle.caseless.specs.Caseless as caseless
 use Rattle.logical.specs.Logical as logical
 use Rattle.visual.specs.Visual as visual
+use Rattle.shift_jis.specs.ShiftJis as shiftJis
 use Rattle.utf8.specs.Utf8 as utf-8
 use Rattle.tables.specs.Own.{ownOf}
 use Rattle.tables.specs.Tables.{Tables}
-use Rattle.kinds.specs.declared.machine.Machine.the-variants.{Utf8, Iso2022Jp, EucKr, Big5, Caseless, Logical, Visual, ArabicFrench}
+use Rattle.kinds.specs.declared.machine.Machine.the-variants.{Utf8, Iso2022Jp, EucKr, Big5, Caseless, Logical, Visual, ArabicFrench, ShiftJis}
 use Rattle.places.specs.Place.{place, feedOf}
 use Rattle.places.specs.declared.place.Place.{Place}
 use Rattle.places.specs.declared.place.Score.{Score}
@@ -38,7 +39,7 @@ takenOf bits unit = cond (eqb (bits / unit % 2) 1) (Live (pos 0)) (None NotInSla
 -- fresh machines, each in its place
 unfoldable pub startOf : ℕ → List Place
 startOf bits =
-    place (Utf8 utf-8.fresh) (takenOf bits 1) ∷ place (Iso2022Jp iso2022jp.fresh) (takenOf bits 2) ∷ place (EucKr euckr.fresh) (takenOf bits 4) ∷ place (Big5 big5.fresh) (takenOf bits 8) ∷ place (Caseless caseless.fresh) (takenOf bits 16) ∷ place (Logical logical.fresh) (takenOf bits 32) ∷ place (Visual visual.fresh) (takenOf bits 64) ∷ place (ArabicFrench arabicFrench.fresh) (takenOf bits 128) ∷ []
+    place (Utf8 utf-8.fresh) (takenOf bits 1) ∷ place (Iso2022Jp iso2022jp.fresh) (takenOf bits 2) ∷ place (EucKr euckr.fresh) (takenOf bits 4) ∷ place (Big5 big5.fresh) (takenOf bits 8) ∷ place (Caseless caseless.fresh) (takenOf bits 16) ∷ place (Logical logical.fresh) (takenOf bits 32) ∷ place (Visual visual.fresh) (takenOf bits 64) ∷ place (ArabicFrench arabicFrench.fresh) (takenOf bits 128) ∷ place (ShiftJis shiftJis.fresh) (takenOf bits 256) ∷ []
 
 -- ---- a part of a chunk
 -- each place over its own tables, the first one's number being k

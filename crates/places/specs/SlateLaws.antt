@@ -2,7 +2,7 @@
 use mathlib.Core.Path.{_≡_, refl, sym, ap, subst, _∙_}
 use mathlib.Core.Bool.{Bool, true, false, cond, and-false}
 use mathlib.Core.List.{List, [], _∷_}
-use Prim.Native.Nat.{ℕ, zero, suc, _+_, _*_, _/_, _%_, _≤_, _<_}
+use Prim.Native.Nat.{ℕ, zero, suc, _+_, _/_, _%_, _≤_, _<_}
 use native.Mathlib.Nat.{le-of-suc-le-suc, not-suc-le-zero, zero-add, add-zero}
 use native.Mathlib.Omega.{arith}
 use lib.Dec.{eqb, leb}
@@ -10,10 +10,9 @@ use lib.IntN.{pos}
 use lib.ListN.{length, getD, drop}
 use lib.Seq.{drop-cons, drop-length}
 use borrow.Author.Tests.{le-leb, lt-leb}
-use Rattle.laws.specs.Each.{EachFrom, each-lacks, true-each, each-weaken, each-get}
+use Rattle.laws.specs.Each.{EachFrom, each-lacks, true-each, each-weaken}
 use Rattle.laws.specs.Limit.{limit}
 use Rattle.laws.specs.declared.Reason.the-variants.{NotInSlate}
-use Rattle.weights.specs.Weights.{perByte}
 use Rattle.big5.specs.Scoring as big5
 use Rattle.euckr.specs.Scoring as euckr
 use Rattle.iso2022jp.specs.Iso2022Jp as iso2022jp
@@ -21,22 +20,20 @@ use Rattle.arabic_french.specs.ArabicFrench as arabicFrench
 use Rattle.caseless.specs.Caseless as caseless
 use Rattle.logical.specs.Logical as logical
 use Rattle.visual.specs.Visual as visual
+use Rattle.shift_jis.specs.ShiftJis as shiftJis
 use Rattle.utf8.specs.Utf8 as utf-8
 use Rattle.kinds.specs.Kinds.{placeNumber, freshOf}
 use Rattle.kinds.specs.KindLaws.{reach-open}
 use Rattle.kinds.specs.Sound.{reachOf}
 use Rattle.kinds.specs.SoundLaws.{sound-more, fresh-sound}
-use Rattle.tables.specs.Own.{Own, ownOf, SizedAt}
-use Rattle.tables.specs.OwnLaws.{own-sized}
-use Rattle.tables.specs.Tables.{Tables, Sized, sizedB}
-use Rattle.tables.specs.TablesLaws.{sized-true, true-sized}
+use Rattle.tables.specs.Own.{Own, placeCount, ownOf}
+use Rattle.tables.specs.Tables.{Tables}
 use Rattle.kinds.specs.declared.machine.Machine.{Machine}
-use Rattle.kinds.specs.declared.machine.Machine.the-variants.{Utf8, Iso2022Jp, EucKr, Big5, Caseless, Logical, Visual, ArabicFrench}
+use Rattle.kinds.specs.declared.machine.Machine.the-variants.{Utf8, Iso2022Jp, EucKr, Big5, Caseless, Logical, Visual, ArabicFrench, ShiftJis}
 use Rattle.places.specs.Order.{droppedB, ScoredFor, ZeroOrNone, FedOr, PlaceFor, SlateFor, placeB, slateB}
 use Rattle.places.specs.Kept.{Kept, AllKept}
 use Rattle.places.specs.OrderLaws.{dropped-unfed, scored-more}
 use Rattle.places.specs.Place.{place, feedOf}
-use Rattle.places.specs.Steps.{BoundedScore, FitPart}
 use Rattle.places.specs.PlaceLaws.{feed-nil}
 use Rattle.places.specs.Slate.{placeAt, startOf, feedFrom, feedAll}
 use Rattle.places.specs.declared.place.Place.{Place}
@@ -73,7 +70,7 @@ unfolding startOf freshOf
 start-for bits =
     record {
       most = omega arith;
-      each = (begun 0 (Utf8 utf-8.fresh) (eqb (bits / 1 % 2) 1) refl refl, (begun 1 (Iso2022Jp iso2022jp.fresh) (eqb (bits / 2 % 2) 1) refl refl, (begun 2 (EucKr euckr.fresh) (eqb (bits / 4 % 2) 1) refl refl, (begun 3 (Big5 big5.fresh) (eqb (bits / 8 % 2) 1) refl refl, (begun 4 (Caseless caseless.fresh) (eqb (bits / 16 % 2) 1) refl refl, (begun 5 (Logical logical.fresh) (eqb (bits / 32 % 2) 1) refl refl, (begun 6 (Visual visual.fresh) (eqb (bits / 64 % 2) 1) refl refl, (begun 7 (ArabicFrench arabicFrench.fresh) (eqb (bits / 128 % 2) 1) refl refl, tt))))))));
+      each = (begun 0 (Utf8 utf-8.fresh) (eqb (bits / 1 % 2) 1) refl refl, (begun 1 (Iso2022Jp iso2022jp.fresh) (eqb (bits / 2 % 2) 1) refl refl, (begun 2 (EucKr euckr.fresh) (eqb (bits / 4 % 2) 1) refl refl, (begun 3 (Big5 big5.fresh) (eqb (bits / 8 % 2) 1) refl refl, (begun 4 (Caseless caseless.fresh) (eqb (bits / 16 % 2) 1) refl refl, (begun 5 (Logical logical.fresh) (eqb (bits / 32 % 2) 1) refl refl, (begun 6 (Visual visual.fresh) (eqb (bits / 64 % 2) 1) refl refl, (begun 7 (ArabicFrench arabicFrench.fresh) (eqb (bits / 128 % 2) 1) refl refl, (begun 8 (ShiftJis shiftJis.fresh) (eqb (bits / 256 % 2) 1) refl refl, tt)))))))));
     }
 
 -- ---- more bytes
@@ -155,21 +152,21 @@ module _ (t : Tables) (last : Bool) (body : ℕ) (xs : List ℕ) where
   pub feed-at : (ps : List Place) (d : Place) (k : ℕ) → k < length ps → getD (feedAll t last body xs ps) k d ≡ feedOf (ownOf t k) last body xs (getD ps k d)
   feed-at ps d k h = subst (λ (i : ℕ). getD (feedAll t last body xs ps) k d ≡ feedOf (ownOf t i) last body xs (getD ps k d)) (zero-add k) (feed-from-at 0 ps d k h)
 
--- eight places, one by one
+-- the places, one by one
 pub joined : {p q : Place} {ps qs : List Place} → p ≡ q → ps ≡ qs → p ∷ ps ≡ q ∷ qs
 joined e f = cc
 
 module _ (ps : List Place) (d : Place) where
   abbrev pub listed : List Place
-  listed = getD ps 0 d ∷ getD ps 1 d ∷ getD ps 2 d ∷ getD ps 3 d ∷ getD ps 4 d ∷ getD ps 5 d ∷ getD ps 6 d ∷ getD ps 7 d ∷ []
+  listed = getD ps 0 d ∷ getD ps 1 d ∷ getD ps 2 d ∷ getD ps 3 d ∷ getD ps 4 d ∷ getD ps 5 d ∷ getD ps 6 d ∷ getD ps 7 d ∷ getD ps 8 d ∷ []
 
-  module _ (e : length ps ≡ 8) where
-    next : (k : ℕ) {qs : List Place} → k < 8 → drop (suc k) ps ≡ qs → drop k ps ≡ getD ps k d ∷ qs
+  module _ (e : length ps ≡ placeCount) where
+    next : (k : ℕ) {qs : List Place} → k < placeCount → drop (suc k) ps ≡ qs → drop k ps ≡ getD ps k d ∷ qs
     next k h r = drop-cons ps k d (rw e h) ∙ ap (λ (l : List Place). getD ps k d ∷ l) r
 
-    pub eight : ps ≡ listed
-    eight =
-        next 0 (omega arith) (next 1 (omega arith) (next 2 (omega arith) (next 3 (omega arith) (next 4 (omega arith) (next 5 (omega arith) (next 6 (omega arith) (next 7 (omega arith) (rw e at (drop-length ps)))))))))
+    pub is-listed : ps ≡ listed
+    is-listed =
+        next 0 (omega arith) (next 1 (omega arith) (next 2 (omega arith) (next 3 (omega arith) (next 4 (omega arith) (next 5 (omega arith) (next 6 (omega arith) (next 7 (omega arith) (next 8 (omega arith) (rw e at (drop-length ps))))))))))
 
 -- ---- the test of all places, each asked by itself
 module _ (n body : ℕ) (closed fed : Bool) (ps : List Place) where
@@ -185,6 +182,6 @@ module _ (n body : ℕ) (closed fed : Bool) (ps : List Place) where
   unfolding slateB
   slate-stop i d h e = sym (rw (each-lacks test 0 ps d i h (rw zero-add e)) (and-false (leb n limit)))
 
-  pub slate-all : n ≤ limit → (d : Place) → length ps ≡ 8 → EachFrom (λ (i : ℕ) (p : Place). test i p ≡ true) 0 (listed ps d) → true ≡ slateB n body closed fed ps
+  pub slate-all : n ≤ limit → (d : Place) → length ps ≡ placeCount → EachFrom (λ (i : ℕ) (p : Place). test i p ≡ true) 0 (listed ps d) → true ≡ slateB n body closed fed ps
   unfolding slateB
-  slate-all h d e f = rw (le-leb _ _ h) (sym (true-each test (λ (i : ℕ) (p : Place). test i p ≡ true) (λ (i : ℕ) (p : Place) q. q) 0 ps (subst (λ (l : List Place). EachFrom (λ (i : ℕ) (p : Place). test i p ≡ true) 0 l) (sym (eight ps d e)) f)))
+  slate-all h d e f = rw (le-leb _ _ h) (sym (true-each test (λ (i : ℕ) (p : Place). test i p ≡ true) (λ (i : ℕ) (p : Place) q. q) 0 ps (subst (λ (l : List Place). EachFrom (λ (i : ℕ) (p : Place). test i p ≡ true) 0 l) (sym (is-listed ps d e)) f)))

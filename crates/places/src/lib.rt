@@ -1,4 +1,4 @@
-// The eight places of the slate: each holds one machine under its kind, beside its score.
+// The nine places of the slate: each holds one machine under its kind, beside its score.
 pub mod order;
 pub mod place;
 pub mod slate;

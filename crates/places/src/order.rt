@@ -5,6 +5,7 @@ ghost use lib.Dec.{eqb, leb};
 ghost use lib.IntN.{natAbs};
 ghost use Rattle.laws.specs.Limit.{limit};
 ghost use Rattle.weights.specs.Weights.{perByte};
+ghost use Rattle.kinds.specs.Kinds.{isSingle};
 ghost use Rattle.places.specs.Order.{spacedOf, droppedB, placeB, slateB};
 ghost use Rattle.places.specs.Steps.{askedIf, askedOf};
 use crate::place;
@@ -40,16 +41,23 @@ fn is_within(at: u64, body: u64, closed: bool) -> bool
     at <= body
 }
 
+// Whether place k is a single-byte machine's.
+fn is_single(k: usize) -> bool
+    ensures { λ r. ⌜ r ≡ isSingle k ⌝ }
+{
+    (4 <= k) & (k <= 7)
+}
+
 // Whether place k can have dropped out so, of a stream that has `body` bytes from the end of the head on.
 fn is_dropped(reason: Reason, at: u64, k: usize, body: u64, closed: bool, fed: bool) -> bool
     ensures { λ r. ⌜ r ≡ droppedB body closed fed k reason at ⌝ }
 {
     match reason {
-        Reason::Class255 => fed & ((4 <= k) & is_within(at, body, closed)),
-        Reason::BadByte => fed & ((k < 4) & (at <= body)),
+        Reason::Class255 => fed & (is_single(k) & is_within(at, body, closed)),
+        Reason::BadByte => fed & (!is_single(k) & (at <= body)),
         Reason::BadSecondByte => fed & (((k == 2) | (k == 3)) & (at <= body)),
         Reason::BrokenEscape => fed & ((k == 1) & (at <= body)),
-        Reason::CutAtClose => fed & ((k < 4) & (closed & (at == body))),
+        Reason::CutAtClose => fed & (!is_single(k) & (closed & (at == body))),
         Reason::NotInSlate => at == 0,
     }
 }
@@ -266,6 +274,22 @@ fn is_in_order_arabic_french(
     }
 }
 
+fn is_in_order_shift_jis(place: Place, bytes: u64, body: u64, closed: bool, fed: bool) -> bool
+    requires { ⌜ bytes ≤ limit ⌝ }
+    ensures { λ r. ⌜ r ≡ placeB bytes body closed fed 8 place ⌝ }
+{
+    let machine = place.machine;
+    let score = place.score;
+    let Machine::ShiftJis(m) = machine else {
+        return false;
+    };
+    match ask(score, 8, bytes, body, closed, fed) {
+        Asked::Sound => m.is_sound(),
+        Asked::Fresh => fresh::is_fresh_shift_jis(m),
+        Asked::Never => false,
+    }
+}
+
 // Whether all places can stand so: after so many bytes, of which `body` came from the end of the head on. Each is asked by itself,
 // from the last to the first, and not in a loop: for a loop the compiler would copy the places (DECISIONS, 73).
 pub fn are_in_order(places: Slate, bytes: u64, body: u64, closed: bool, fed: bool) -> bool
@@ -275,6 +299,9 @@ pub fn are_in_order(places: Slate, bytes: u64, body: u64, closed: bool, fed: boo
         return false;
     }
     let spaced = with_space(bytes, closed);
+    if !is_in_order_shift_jis(places[8], bytes, body, closed, fed) {
+        return false;
+    }
     if !is_in_order_arabic_french(places[7], bytes, spaced, body, closed, fed) {
         return false;
     }

@@ -22,6 +22,7 @@ use kinds::machine::Machine;
 use kinds::machine::Ran;
 use laws::Reason;
 use logical::Logical;
+use shift_jis::ShiftJis;
 use utf8::Utf8;
 use visual::Visual;
 
@@ -37,8 +38,10 @@ pub struct Place {
     pub score: Score,
 }
 
-// Eight places, by their numbers: UTF-8, ISO-2022-JP, EUC-KR, Big5, caseless, logical, visual, Arabic-French.
-pub type Slate = [Place; 8];
+pub const PLACES: usize = 9;
+
+// All places, by their numbers: UTF-8, ISO-2022-JP, EUC-KR, Big5, caseless, logical, visual, Arabic-French, Shift_JIS.
+pub type Slate = [Place; PLACES];
 
 // The difference, or 0.
 pub(crate) fn less(a: u64, b: u64) -> u64
@@ -283,6 +286,26 @@ pub(crate) fn feed_arabic_french(
         fresh,
         before,
         machine.run_arabic_french(part, classes, marks, pairs, weights),
+        body,
+        part.len(),
+    )
+}
+
+pub(crate) fn feed_shift_jis(places: Slate, part: &[u8], body: u64, index: &[u32]) -> Place
+    ensures { λ r. ⌜ r ≡ fedAs 8 (own [] [] [] (now (index .entry)) [] []) body (now (part .entry)) (placeAt 8 places) ⌝ }
+    ensures { λ r. ⌜ KnownFed 8 (own [] [] [] (now (index .entry)) [] []) (now (part .entry)) (placeAt 8 places) ⌝ }
+{
+    let place = places[8];
+    let machine = place.machine;
+    let score = place.score;
+    let fresh = Machine::ShiftJis(ShiftJis::fresh());
+    let Score::Live(before) = score else {
+        return passed(fresh, score);
+    };
+    settled(
+        fresh,
+        before,
+        machine.run_shift_jis(part, index),
         body,
         part.len(),
     )

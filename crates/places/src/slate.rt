@@ -1,4 +1,4 @@
-// All eight places.
+// All nine places.
 ghost use mathlib.Core.Path.{_≡_};
 ghost use Rattle.tables.specs.Tables.{tables};
 ghost use Prim.Native.Nat.{_<_};
@@ -17,13 +17,12 @@ use iso2022jp::Iso2022Jp;
 use kinds::machine::Machine;
 use laws::Reason;
 use logical::Logical;
+use shift_jis::ShiftJis;
 use utf8::Utf8;
 use visual::Visual;
 
-pub const PLACES: usize = 8;
-
 // The score of a place that takes part, or does not: its bit is worth `unit`.
-fn taken(bits: u8, unit: u8) -> Score
+fn taken(bits: u16, unit: u16) -> Score
     requires { ⌜ 0 < unit ⌝ }
     ensures { λ r. ⌜ r ≡ takenOf bits unit ⌝ }
 {
@@ -33,7 +32,7 @@ fn taken(bits: u8, unit: u8) -> Score
     Score::None(Reason::NotInSlate, 0)
 }
 
-fn begun(machine: Machine, bits: u8, unit: u8) -> Place
+fn begun(machine: Machine, bits: u16, unit: u16) -> Place
     requires { ⌜ 0 < unit ⌝ }
     ensures { λ r. ⌜ r ≡ place machine (takenOf bits unit) ⌝ }
 {
@@ -43,8 +42,8 @@ fn begun(machine: Machine, bits: u8, unit: u8) -> Place
     }
 }
 
-// Fresh machines; bit k of `bits` says whether place k takes part.
-pub fn start(bits: u8) -> Slate
+// Fresh machines; bit k of `bits` says whether place k takes part. Bits that no place has say nothing.
+pub fn start(bits: u16) -> Slate
     ensures { λ r. ⌜ r ≡ startOf bits ⌝ }
 {
     [
@@ -56,6 +55,7 @@ pub fn start(bits: u8) -> Slate
         begun(Machine::Logical(Logical::fresh()), bits, 32),
         begun(Machine::Visual(Visual::fresh()), bits, 64),
         begun(Machine::ArabicFrench(ArabicFrench::fresh()), bits, 128),
+        begun(Machine::ShiftJis(ShiftJis::fresh()), bits, 256),
     ]
 }
 
@@ -94,6 +94,7 @@ fn feed_each(
         place::feed_logical(places, part, classes5, marks5, pairs5, weights, body),
         place::feed_visual(places, part, body, classes6, marks6, pairs6, weights),
         place::feed_arabic_french(places, part, body, classes7, marks7, pairs7, weights),
+        place::feed_shift_jis(places, part, body, jis),
     ]
 }
 
@@ -135,6 +136,7 @@ fn feed_both(
         place::feed_logical(places, before, classes5, marks5, pairs5, weights, 0),
         place::feed_visual(places, before, 0, classes6, marks6, pairs6, weights),
         place::feed_arabic_french(places, before, 0, classes7, marks7, pairs7, weights),
+        place::feed_shift_jis(places, before, 0, jis),
     ];
     [
         place::feed_utf8(after, part, body),
@@ -145,6 +147,7 @@ fn feed_both(
         place::feed_logical(after, part, classes5, marks5, pairs5, weights, body),
         place::feed_visual(after, part, body, classes6, marks6, pairs6, weights),
         place::feed_arabic_french(after, part, body, classes7, marks7, pairs7, weights),
+        place::feed_shift_jis(after, part, body, jis),
     ]
 }
 
@@ -183,6 +186,7 @@ fn end_each(
         place::feed_logical(places, b" ", classes5, marks5, pairs5, weights, past),
         place::feed_visual(places, b" ", past, classes6, marks6, pairs6, weights),
         place::feed_arabic_french(places, b" ", past, classes7, marks7, pairs7, weights),
+        place::end_decoder(places[8], body),
     ]
 }
 

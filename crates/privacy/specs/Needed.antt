@@ -42,7 +42,7 @@ inTwo xs ys = call xs false ∷ call ys true ∷ []
 
 -- all places in
 abbrev pub allIn : ℕ
-allIn = 255
+allIn = 511
 
 -- ---- lent data: all zeros, but for classes and marks, which are the same in all four places, and weights
 unfoldable pub zeros : ℕ → List ℕ

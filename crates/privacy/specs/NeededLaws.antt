@@ -24,11 +24,11 @@ use Rattle.utf8.specs.Utf8 as utf-8
 use Rattle.iso2022jp.specs.Iso2022Jp.{isText, asciiOf, escapeStartOf, designated, stateOf, escapedTo, stepIn, closeIn}
 use Rattle.arabic_french.specs.ArabicFrench as arabicFrench
 use Rattle.caseless.specs.Caseless as caseless
-use Rattle.tables.specs.Own.{ownOf}
+use Rattle.tables.specs.Own.{placeCount, ownOf}
 use Rattle.tables.specs.Tables.{Single, Tables, tables, Sized}
 use Rattle.kinds.specs.Kinds.{stepOf, closeOf}
 use Rattle.kinds.specs.declared.machine.Machine.{Machine}
-use Rattle.kinds.specs.declared.machine.Machine.the-variants.{Utf8, Iso2022Jp, EucKr, Big5, Caseless, Logical, Visual, ArabicFrench}
+use Rattle.kinds.specs.declared.machine.Machine.the-variants.{Utf8, Iso2022Jp, EucKr, Big5, Caseless, Logical, Visual, ArabicFrench, ShiftJis}
 use Rattle.places.specs.Place.{place, placeAs, ranFrom, endFrom, feedOf as feedPlace}
 use Rattle.places.specs.Slate as slate
 use Rattle.places.specs.SlateLaws.{feed-at}
@@ -128,13 +128,13 @@ pub record ReachedBy (calls : List Call) (body : ℕ) (xs : List ℕ) : Type 0 w
 abbrev leftIn : Tables → ℕ → ℕ → List ℕ → Place
 leftIn t k body xs = feedPlace (ownOf t k) true body xs (getD (slate.startOf allIn) k other)
 
-left-at : (t : Tables) (calls : List Call) → ClosedStream t allIn calls → (body : ℕ) (xs : List ℕ) → ReachedBy calls body xs → (k : ℕ) → k < 8 → getD (afterCalls t (startOf allIn) calls .places) k other ≡ leftIn t k body xs
+left-at : (t : Tables) (calls : List Call) → ClosedStream t allIn calls → (body : ℕ) (xs : List ℕ) → ReachedBy calls body xs → (k : ℕ) → k < placeCount → getD (afterCalls t (startOf allIn) calls .places) k other ≡ leftIn t k body xs
 unfolding slate.startOf
 left-at t calls closed body xs r k h =
     let e : afterCalls t (startOf allIn) calls .places ≡ slate.feedAll t true body xs (slate.startOf allIn) = stream-places t allIn calls closed ∙ rw (r .met, r .reached, r .rest) in
     ap (λ (ps : List Place). getD ps k other) e ∙ feed-at t true body xs (slate.startOf allIn) other k h
 
-module _ (t : Tables) (one two : List Call) (c : ClosedStream t allIn one) (d : ClosedStream t allIn two) (body : ℕ) (xs ys : List ℕ) (r : ReachedBy one body xs) (q : ReachedBy two body ys) (k : ℕ) (h : k < 8) where
+module _ (t : Tables) (one two : List Call) (c : ClosedStream t allIn one) (d : ClosedStream t allIn two) (body : ℕ) (xs ys : List ℕ) (r : ReachedBy one body xs) (q : ReachedBy two body ys) (k : ℕ) (h : k < placeCount) where
   places-differ : {A : Type 0} (f : Place → A) → (f (leftIn t k body xs) ≡ f (leftIn t k body ys) → ⊥) → (Agree (afterCalls t (startOf allIn) one) (afterCalls t (startOf allIn) two) → f (getD (afterCalls t (startOf allIn) one .places) k other) ≡ f (getD (afterCalls t (startOf allIn) two .places) k other)) → Agree (afterCalls t (startOf allIn) one) (afterCalls t (startOf allIn) two) → ⊥
   places-differ f apart same a = apart (ap f (sym (left-at t one c body xs r k h)) ∙ (same a ∙ ap f (left-at t two d body ys q k h)))
 
@@ -187,6 +187,7 @@ longest (Big5 m) = 0
 longest (Logical m) = 0
 longest (Visual m) = 0
 longest (ArabicFrench m) = 0
+longest (ShiftJis m) = 0
 
 word-of-41 : longest (leftIn lettered 4 1 (0x41 ∷ 0x20 ∷ 0x20 ∷ 0xE9 ∷ []) .machine) ≡ 1
 unfolding slate.startOf ranFrom endFrom placeAs run endsAt takes withByte plus stepOf closeOf carried caseless.stepOf pairGainOf adjacentOf zeros noScores

@@ -15,7 +15,7 @@ use Rattle.privacy.specs.PrivacyLaws.{privacy, same-places}
 
 -- what stands before the line and behind it
 abbrev title : List ℕ
-title = ascii "slate 1" ++ newline
+title = ascii "slate 2" ++ newline
 
 abbrev behindOf : ℕ → List Place → Leader → List ℕ
 behindOf count ps l = (ascii "nonascii " ++ decimalOf count ++ newline) ++ placeLines 0 ps ++ leaderLine l

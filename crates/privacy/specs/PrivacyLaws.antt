@@ -14,7 +14,7 @@ use Rattle.laws.specs.Lists.{any, any-drop, last}
 use Rattle.laws.specs.Memory.{all}
 use Rattle.context.specs.Head.{isTrigger, headOf, nonAsciiCount}
 use Rattle.context.specs.HeadLaws.{head-triggerless}
-use Rattle.tables.specs.Own.{Own, nothing, ofSingle, owns, ownOf}
+use Rattle.tables.specs.Own.{Own, nothing, ofSingle, placeCount, owns, ownOf}
 use Rattle.tables.specs.Tables.{Single, Tables}
 use Rattle.kinds.specs.HeadLaws.{head-plain, bare-plain}
 use Rattle.kinds.specs.Plain.{isShift, plain, Plain}
@@ -46,18 +46,18 @@ module _ (t : Tables) (n : InEach No255 t) (l : InEach NoLetter t) where
         bare-plain _ _ _ _,
         (
           bare-plain _ _ _ _,
-          (single-plain (t .caseless) (n .0) (l .0), (single-plain (t .logical) (n .1 .0) (l .1 .0), (single-plain (t .visual) (n .1 .1 .0) (l .1 .1 .0), (single-plain (t .arabicFrench) (n .1 .1 .1 .0) (l .1 .1 .1 .0), tt)))),
+          (single-plain (t .caseless) (n .0) (l .0), (single-plain (t .logical) (n .1 .0) (l .1 .0), (single-plain (t .visual) (n .1 .1 .0) (l .1 .1 .0), (single-plain (t .arabicFrench) (n .1 .1 .1 .0) (l .1 .1 .1 .0), (bare-plain _ _ _ _, tt))))),
         ),
       ),
     ),
   )
 
   all-plain : (k : ℕ) → Plain (ownOf t k)
-  all-plain k = at (ltb k 8) refl
+  all-plain k = at (ltb k placeCount) refl
     where
-      at : (b : Bool) → ltb k 8 ≡ b → Plain (ownOf t k)
-      at true e = each-get (λ (k : ℕ) (o : Own). Plain o) 0 (owns t) nothing each-plain k (ltb-true k 8 e)
-      at false e = rw (List·getD-eq-default (owns t) nothing {n = k} (ltb-false k 8 e)) (bare-plain _ _ _ _)
+      at : (b : Bool) → ltb k placeCount ≡ b → Plain (ownOf t k)
+      at true e = each-get (λ (k : ℕ) (o : Own). Plain o) 0 (owns t) nothing each-plain k (ltb-true k placeCount e)
+      at false e = rw (List·getD-eq-default (owns t) nothing {n = k} (ltb-false k placeCount e)) (bare-plain _ _ _ _)
 
 -- ---- the last two of the last few
 last-of-last : (k : ℕ) (xs : List ℕ) → 2 ≤ k → last 2 (last k xs) ≡ last 2 xs

@@ -17,6 +17,8 @@ use Rattle.records.proofs.fresh.is_fresh_visual.Kinds as fresh-is-fresh
 use Rattle.records.proofs.fresh.is_fresh_visual.Reads as fresh-is-fresh-visual-reads
 use Rattle.records.proofs.fresh.is_fresh_arabic_french.Kinds as fresh-is-fresh-arabic-french-kinds
 use Rattle.records.proofs.fresh.is_fresh_arabic_french.Reads as fresh-is-fresh-arabic-french-reads
+use Rattle.records.proofs.fresh.is_fresh_shift_jis.Kinds as fresh-is-fresh-shift-jis-kinds
+use Rattle.records.proofs.fresh.is_fresh_shift_jis.Reads as fresh-is-fresh-shift-jis-reads
 use Rattle.records.proofs.sound.is_sound_caseless.Kinds as sound-is-sound-caseless-kinds
 use Rattle.records.proofs.sound.is_sound_caseless.Reads as sound-is-sound-caseless-reads
 use Rattle.records.proofs.sound.is_sound_logical.Kinds as sound-is-sound-logical-kinds
@@ -49,6 +51,9 @@ fresh-is-fresh-visual = record { total = λ κs a. tt; one = λ κs a z z′ w w
 
 pub fresh-is-fresh-arabic-french : Determined 0 fresh-is-fresh-arabic-french-kinds.ps fresh-is-fresh-arabic-french-kinds.r fresh-is-fresh-arabic-french-reads.Asked fresh-is-fresh-arabic-french-reads.Learnt
 fresh-is-fresh-arabic-french = record { total = λ κs a. tt; one = λ κs a z z′ w w′ p q. (same p q, refl) }
+
+pub fresh-is-fresh-shift-jis : Determined 0 fresh-is-fresh-shift-jis-kinds.ps fresh-is-fresh-shift-jis-kinds.r fresh-is-fresh-shift-jis-reads.Asked fresh-is-fresh-shift-jis-reads.Learnt
+fresh-is-fresh-shift-jis = record { total = λ κs a. tt; one = λ κs a z z′ w w′ p q. (same p q, refl) }
 
 pub sound-is-sound-caseless : Determined 0 sound-is-sound-caseless-kinds.ps sound-is-sound-caseless-kinds.r sound-is-sound-caseless-reads.Asked sound-is-sound-caseless-reads.Learnt
 sound-is-sound-caseless = record { total = λ κs a. tt; one = λ κs a z z′ w w′ p q. (same p q, refl) }

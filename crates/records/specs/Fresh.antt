@@ -21,9 +21,10 @@ use Rattle.arabic_french.specs.declared.LatinCaseState.the-variants as S
 use Rattle.caseless.specs.declared.Caseless.{Caseless as CaselessRecord}
 use Rattle.logical.specs.declared.Logical.{Logical as LogicalRecord}
 use Rattle.visual.specs.declared.Visual.{Visual as VisualRecord}
+use Rattle.shift_jis.specs.declared.ShiftJis.{ShiftJis as ShiftJisRecord}
 use Rattle.utf8.specs.declared.Utf8.{Utf8 as Utf8Record}
 use Rattle.kinds.specs.declared.machine.Machine.{Machine}
-use Rattle.kinds.specs.declared.machine.Machine.the-variants.{Utf8, Iso2022Jp, EucKr, Big5, Caseless, Logical, Visual, ArabicFrench}
+use Rattle.kinds.specs.declared.machine.Machine.the-variants.{Utf8, Iso2022Jp, EucKr, Big5, Caseless, Logical, Visual, ArabicFrench, ShiftJis}
 
 unfoldable pub freshUtf8B : Utf8Record → Bool
 freshUtf8B m = eqb (m .need) 0 && (eqb (m .lo) 0x80 && eqb (m .hi) 0xBF)
@@ -91,6 +92,9 @@ spaceCase S.AllCaps = false
 unfoldable pub freshArabicFrenchB : ArabicFrenchRecord → Bool
 freshArabicFrenchB m = spaceCase (m .«case_state») && freshCommonB (m .prev) (m .«prev_ascii») (m .«current_word_len») (m .«longest_word»)
 
+abbrev pub freshShiftJisB : ShiftJisRecord → Bool
+freshShiftJisB m = eqb (m .lead) 0
+
 unfoldable pub freshB : Machine → Bool
 freshB (Utf8 m) = freshUtf8B m
 freshB (Iso2022Jp m) = freshIso2022JpB m
@@ -100,3 +104,4 @@ freshB (Caseless m) = freshCaselessB m
 freshB (Logical m) = freshLogicalB m
 freshB (Visual m) = freshVisualB m
 freshB (ArabicFrench m) = freshArabicFrenchB m
+freshB (ShiftJis m) = freshShiftJisB m

@@ -21,9 +21,10 @@ use Rattle.arabic_french.specs.declared.LatinCaseState.the-variants as S
 use Rattle.caseless.specs.declared.Caseless.{Caseless as CaselessRecord}
 use Rattle.logical.specs.declared.Logical.{Logical as LogicalRecord}
 use Rattle.visual.specs.declared.Visual.{Visual as VisualRecord}
+use Rattle.shift_jis.specs.declared.ShiftJis.{ShiftJis as ShiftJisRecord}
 use Rattle.utf8.specs.declared.Utf8.{Utf8 as Utf8Record}
 use Rattle.kinds.specs.declared.machine.Machine.{Machine}
-use Rattle.kinds.specs.declared.machine.Machine.the-variants.{Utf8, Iso2022Jp, EucKr, Big5, Caseless, Logical, Visual, ArabicFrench}
+use Rattle.kinds.specs.declared.machine.Machine.the-variants.{Utf8, Iso2022Jp, EucKr, Big5, Caseless, Logical, Visual, ArabicFrench, ShiftJis}
 use native.Mathlib.Omega.{arith}
 use borrow.Author.Tests.{eqb-true}
 use Rattle.laws.specs.Tests.{both, off}
@@ -34,9 +35,10 @@ use Rattle.arabic_french.specs.ArabicFrench as arabicFrench
 use Rattle.caseless.specs.Caseless as caseless
 use Rattle.logical.specs.Logical as logical
 use Rattle.visual.specs.Visual as visual
+use Rattle.shift_jis.specs.ShiftJis as shiftJis
 use Rattle.utf8.specs.Utf8 as utf-8
 use Rattle.kinds.specs.Kinds.{freshOf}
-use Rattle.records.specs.Fresh.{freshUtf8B, asciiState, asciiOut, freshIso2022JpB, emptyB, otherKorean, freshEucKrB, otherCj, freshBig5B, freshCommonB, freshCaselessB, freshLogicalB, freshVisualB, spaceCase, freshArabicFrenchB, freshB}
+use Rattle.records.specs.Fresh.{freshUtf8B, asciiState, asciiOut, freshIso2022JpB, emptyB, otherKorean, freshEucKrB, otherCj, freshBig5B, freshCommonB, freshCaselessB, freshLogicalB, freshVisualB, spaceCase, freshArabicFrenchB, freshShiftJisB, freshB}
 
 no : {A : Type 0} → false ≡ true → A
 no e = absurd (let q : _≡_ {A = ℕ} 0 1 = cc in omega arith)
@@ -175,6 +177,9 @@ fresh-arabic-french m e =
     same : {k : ℕ} {s : LatinCaseState} {a : Bool} {w l : ℕ} → k ≡ 0 → s ≡ S.Space → a ≡ true → w ≡ 0 → l ≡ 0 → record { prev = k; «case_state» = s; «prev_ascii» = a; «current_word_len» = w; «longest_word» = l } ≡ arabicFrench.fresh
     same p q r s t = rw (p, q, r, s, t)
 
+fresh-shift-jis : (m : ShiftJisRecord) → freshShiftJisB m ≡ true → m ≡ shiftJis.fresh
+fresh-shift-jis m e = ap shiftJis.holds (eqb-true _ _ e)
+
 -- ---- in both directions
 pub fresh-true : (m : Machine) → freshB m ≡ true → m ≡ freshOf m
 unfolding freshB freshOf
@@ -186,6 +191,7 @@ fresh-true (Caseless m) e = ap Caseless (fresh-caseless m e)
 fresh-true (Logical m) e = ap Logical (fresh-logical m e)
 fresh-true (Visual m) e = ap Visual (fresh-visual m e)
 fresh-true (ArabicFrench m) e = ap ArabicFrench (fresh-arabic-french m e)
+fresh-true (ShiftJis m) e = ap ShiftJis (fresh-shift-jis m e)
 
 fresh-passes : (m : Machine) → freshB (freshOf m) ≡ true
 unfolding freshB freshOf freshUtf8B freshIso2022JpB freshEucKrB freshBig5B freshCommonB freshCaselessB freshLogicalB freshVisualB freshArabicFrenchB
@@ -197,6 +203,7 @@ fresh-passes (Caseless m) = refl
 fresh-passes (Logical m) = refl
 fresh-passes (Visual m) = refl
 fresh-passes (ArabicFrench m) = refl
+fresh-passes (ShiftJis m) = refl
 
 pub true-fresh : (m : Machine) → m ≡ freshOf m → freshB m ≡ true
 true-fresh m e = ap freshB e ∙ fresh-passes m

@@ -1,6 +1,6 @@
 // Whether a machine is the fresh one of its kind, by a function for each.
 ghost use mathlib.Core.Path.{_≡_};
-ghost use Rattle.records.specs.Fresh.{asciiState, asciiOut, otherKorean, otherCj, spaceCase, freshUtf8B, freshIso2022JpB, emptyB, freshEucKrB, freshBig5B, freshCommonB, freshCaselessB, freshLogicalB, freshVisualB, freshArabicFrenchB};
+ghost use Rattle.records.specs.Fresh.{asciiState, asciiOut, otherKorean, otherCj, spaceCase, freshUtf8B, freshIso2022JpB, emptyB, freshEucKrB, freshBig5B, freshCommonB, freshCaselessB, freshLogicalB, freshVisualB, freshArabicFrenchB, freshShiftJisB};
 use arabic_french::ArabicFrench;
 use arabic_french::LatinCaseState;
 use big5::Big5;
@@ -13,6 +13,7 @@ use iso2022jp::Iso2022Jp;
 use iso2022jp::OutputState;
 use logical::Logical;
 use pairs::Held;
+use shift_jis::ShiftJis;
 use utf8::Utf8;
 use visual::Visual;
 
@@ -149,4 +150,10 @@ pub fn is_fresh_arabic_french(m: ArabicFrench) -> bool
     let case_state = m.case_state;
     is_space_case(case_state)
         && is_fresh_common(m.prev, m.prev_ascii, m.current_word_len, m.longest_word)
+}
+
+pub fn is_fresh_shift_jis(m: ShiftJis) -> bool
+    ensures { λ r. ⌜ r ≡ freshShiftJisB m ⌝ }
+{
+    m.lead == 0
 }

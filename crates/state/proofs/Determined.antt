@@ -5,6 +5,8 @@ use Rattle.state.proofs.reply.Reply.number.Kinds as reply-number-kinds
 use Rattle.state.proofs.reply.Reply.number.Reads as reply-number-reads
 use Rattle.state.proofs.reply.Reply.flag.Kinds as reply-flag-kinds
 use Rattle.state.proofs.reply.Reply.flag.Reads as reply-flag-reads
+use Rattle.state.proofs.reply.StartReply.number.Kinds as reply-start-reply-number-kinds
+use Rattle.state.proofs.reply.StartReply.number.Reads as reply-start-reply-number-reads
 use Rattle.state.proofs.front.Front.fresh.Kinds as front-fresh-kinds
 use Rattle.state.proofs.front.Front.fresh.Reads as front-fresh-reads
 use Rattle.state.proofs.front.Front.flag.Kinds as front-flag-kinds
@@ -25,6 +27,9 @@ reply-number = record { total = λ κs a. tt; one = λ κs a z z′ w w′ p q. 
 
 pub reply-flag : Determined 0 reply-flag-kinds.ps reply-flag-kinds.r reply-flag-reads.Asked reply-flag-reads.Learnt
 reply-flag = record { total = λ κs a. tt; one = λ κs a z z′ w w′ p q. (same p q, refl) }
+
+pub reply-start-reply-number : Determined 0 reply-start-reply-number-kinds.ps reply-start-reply-number-kinds.r reply-start-reply-number-reads.Asked reply-start-reply-number-reads.Learnt
+reply-start-reply-number = record { total = λ κs a. tt; one = λ κs a z z′ w w′ p q. (same p q, refl) }
 
 pub front-fresh : Determined 0 front-fresh-kinds.ps front-fresh-kinds.r front-fresh-reads.Asked front-fresh-reads.Learnt
 front-fresh = record { total = λ κs a. tt; one = λ κs a z z′ w w′ p q. (same p q, refl) }

@@ -4,7 +4,7 @@ use mathlib.Core.List.{List}
 use Prim.Native.Nat.{ℕ}
 use lib.Dec.{eqb, ltb}
 use Rattle.kinds.specs.declared.machine.Machine.{Machine}
-use Rattle.kinds.specs.declared.machine.Machine.the-variants.{Utf8, Iso2022Jp, EucKr, Big5, Caseless, Logical, Visual, ArabicFrench}
+use Rattle.kinds.specs.declared.machine.Machine.the-variants.{Utf8, Iso2022Jp, EucKr, Big5, Caseless, Logical, Visual, ArabicFrench, ShiftJis}
 use Rattle.places.specs.Slate.{placeAt}
 use Rattle.places.specs.declared.place.Place.{Place}
 use Rattle.places.specs.declared.place.Score.{Score}
@@ -31,6 +31,7 @@ plausiblePunctuation (Caseless m) = 0
 plausiblePunctuation (Logical m) = m .«plausible_punctuation»
 plausiblePunctuation (Visual m) = m .«plausible_punctuation»
 plausiblePunctuation (ArabicFrench m) = 0
+plausiblePunctuation (ShiftJis m) = 0
 
 -- whether place k is one of the two
 abbrev pub isHebrew : ℕ → Bool

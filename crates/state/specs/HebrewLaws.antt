@@ -1,31 +1,31 @@
 -- Between the two orders of Hebrew: the definition names the place that is said without tests, and no other is. The places that the
 -- code reads. Assumes nothing.
-use mathlib.Core.Path.{_≡_, refl, sym, _∙_}
-use mathlib.Core.Bool.{Bool, true, false, cond, _&&_, _||_}
-use mathlib.Core.List.{List, [], _∷_}
+use mathlib.Core.Path.{_≡_, refl}
+use mathlib.Core.Bool.{Bool, true, false, _&&_, _||_}
+use mathlib.Core.List.{List}
 use mathlib.Core.Logic.{_⊎_, inl, inr}
-use Prim.Native.Nat.{ℕ, zero, suc, _<_, _≤_}
-use native.Mathlib.Nat.{not-suc-le-zero, le-of-suc-le-suc}
+use Prim.Native.Nat.{ℕ}
 use native.Mathlib.Omega.{arith}
 use lib.Dec.{eqb, ltb}
 use lib.ListN.{length, getD}
-use borrow.Author.Tests.{lt-ltb, le-ltb, ltb-true, ltb-false, eqb-true, eq-eqb}
+use borrow.Author.Tests.{lt-ltb, le-ltb, ltb-true, ltb-false, eqb-true}
 use Rattle.laws.specs.Tests.{both, either}
+use Rattle.tables.specs.Own.{placeCount}
 use Rattle.places.specs.declared.place.Place.{Place}
 use Rattle.places.specs.declared.place.Score.{Score}
 use Rattle.places.specs.declared.place.Score.the-variants as score
 use Rattle.places.specs.Slate.{placeAt}
 use Rattle.places.specs.SlateLaws.{place-read}
 use Rattle.state.specs.Hebrew.{logical, visual, hasScore, plausiblePunctuation, isHebrew, contested, punctuated, namedFrom, namedOf}
-use Rattle.state.specs.Leads.{Dropped, HasScore, Contested, counted, Punctuated, Named}
+use Rattle.state.specs.Leads.{Dropped, Contested, counted, Punctuated, Named}
 
 -- ---- the two ways through the code
-module _ (ps : List Place) (k : ℕ) (d e : Place) (eight : length ps ≡ 8) where
+module _ (ps : List Place) (k : ℕ) (d e : Place) (long : length ps ≡ placeCount) where
   read-logical : getD ps logical d ≡ placeAt logical ps
-  read-logical = place-read ps logical d (rw eight (omega arith))
+  read-logical = place-read ps logical d (rw long (omega arith))
 
   read-visual : getD ps visual e ≡ placeAt visual ps
-  read-visual = place-read ps visual e (rw eight (omega arith))
+  read-visual = place-read ps visual e (rw long (omega arith))
 
   pub named-settled : contested (getD ps logical d) (getD ps visual e) k ≡ true → punctuated (getD ps logical d) (getD ps visual e) ≡ namedOf ps k
   unfolding namedFrom

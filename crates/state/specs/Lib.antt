@@ -7,4 +7,5 @@ pub mod LeadsLaws
 pub mod Order
 pub mod OrderLaws
 pub mod Reply
+pub mod StartLaws
 pub mod State

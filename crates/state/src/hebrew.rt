@@ -33,6 +33,7 @@ fn plausible_punctuation(machine: Machine) -> u64
         Machine::Logical(m) => m.plausible_punctuation,
         Machine::Visual(m) => m.plausible_punctuation,
         Machine::ArabicFrench(_) => 0,
+        Machine::ShiftJis(_) => 0,
     }
 }
 

@@ -4,9 +4,9 @@ ghost use Rattle.state.specs.Leader.{betterOf, bestFrom, leaderOf};
 ghost use Rattle.state.specs.declared.leader.Best.the-variants as best;
 use crate::State;
 use crate::hebrew;
+use places::place::PLACES;
 use places::place::Score;
 use places::place::Slate;
-use places::slate::PLACES;
 
 // Before any trigger; no place has a score; or the number of the place.
 pub enum Leader {

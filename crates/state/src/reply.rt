@@ -1,6 +1,6 @@
-// What is replied to a chunk.
+// What is replied to a chunk, and to a start.
 ghost use mathlib.Core.Path.{_≡_};
-ghost use Rattle.state.specs.Reply.{numberOf, replyFlag};
+ghost use Rattle.state.specs.Reply.{numberOf, replyFlag, startNumber};
 
 // With each but the last: whether any non-ASCII byte has reached the places so far.
 pub enum Reply {
@@ -34,6 +34,24 @@ impl Reply {
             Reply::WrongLength(flag) => flag,
             Reply::TooLong(flag) => flag,
             Reply::NotInOrder => false,
+        }
+    }
+}
+
+// To a start: it has set a bit that no place has, or not.
+pub enum StartReply {
+    Accepted,
+    NoSuchPlace,
+}
+
+impl StartReply {
+    // Its number in document 02.
+    pub fn number(self) -> u8
+        ensures { λ r. ⌜ r ≡ startNumber self ⌝ }
+    {
+        match self {
+            StartReply::Accepted => 0,
+            StartReply::NoSuchPlace => 12,
         }
     }
 }

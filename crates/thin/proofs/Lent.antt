@@ -70,8 +70,8 @@ module _ (κs : Lfts 19) where
   spelled = (ptr-vals, (array-vals (LL.vals P.the-type P′.the-laws), (slice-vals, (bool-vals, slices-spelled elements 2 (κs .1 .1)))))
 
   abbrev pub tells : Tellss (typesAt (feed.signature .params) κs) (Ises (typesAt (feed.signature .params) κs)) spelled
-  tells = (mut-tells (named 0) (κs .0) F.the-row, (array-tells P.the-row (LL.vals P.the-type P′.the-laws) (LL.tells P.the-type P′.the-laws) 8, (shr-slice-tells (named 1) (κs .1 .0) u8, (bool-tells, slices-tell elements 2 (κs .1 .1)))))
+  tells = (mut-tells (named 0) (κs .0) F.the-row, (array-tells P.the-row (LL.vals P.the-type P′.the-laws) (LL.tells P.the-type P′.the-laws) 9, (shr-slice-tells (named 1) (κs .1 .0) u8, (bool-tells, slices-tell elements 2 (κs .1 .1)))))
 
   module _ {M : Type 1} (𝓤 : URA M) (H : Heap 𝓤) (A : Atoms 𝓤) (W : Given 𝓤 H A) where
     abbrev pub lawfuls : Lawfuls 𝓤 H A (typesAt (feed.signature .params) κs)
-    lawfuls = (mut-lawful 𝓤 H A W (named 0) (κs .0) F.the-row, (array-lawful 𝓤 H A W P.the-row (LL.lawful P.the-type P′.the-laws 𝓤 H A W) 8, (shr-slice-lawful 𝓤 H A W (named 1) (κs .1 .0) u8, (bool-lawful 𝓤 H A W, slices-lawful 𝓤 H A W elements 2 (κs .1 .1)))))
+    lawfuls = (mut-lawful 𝓤 H A W (named 0) (κs .0) F.the-row, (array-lawful 𝓤 H A W P.the-row (LL.lawful P.the-type P′.the-laws 𝓤 H A W) 9, (shr-slice-lawful 𝓤 H A W (named 1) (κs .1 .0) u8, (bool-lawful 𝓤 H A W, slices-lawful 𝓤 H A W elements 2 (κs .1 .1)))))

@@ -4,7 +4,8 @@ use mathlib.Core.Path.{_≡_}
 use native.Mathlib.Omega.{arith}
 use borrow.Author.Needs.{needs}
 use Rattle.tables.specs.Tables.{Tables, tables}
-use Rattle.places.specs.FedLaws.{end-eight, ended-read}
+use Rattle.places.specs.OrderLaws.{no-truth}
+use Rattle.places.specs.FedLaws.{end-listed, ended-read}
 use Rattle.places.specs.Slate.{nowhere}
 use Rattle.places.proofs.slate.end_each.Statement.{statement}
 use Rattle.places.proofs.slate.end_each.Tie as tie
@@ -12,7 +13,7 @@ use Rattle.places.proofs.slate.end_each.Tie as tie
 abbrev lent : tie.Start → Tables
 lent s = tables (s .args .classes4 .now) (s .args .marks4 .now) (s .args .pairs4 .now) (s .args .classes5 .now) (s .args .marks5 .now) (s .args .pairs5 .now) (s .args .classes6 .now) (s .args .marks6 .now) (s .args .pairs6 .now) (s .args .classes7 .now) (s .args .marks7 .now) (s .args .pairs7 .now) (s .args .big5 .now) (s .args .euckr .now) (s .args .jis .now) (s .args .extras .now) (s .args .weights .now)
 
-long : (s : tie.Start) → length (s .args .t1) ≡ 8
+long : (s : tie.Start) → length (s .args .t1) ≡ 9
 long s = search needs
 
 wrapping-add-u64-requires : tie.Need-wrapping-add-u64-requires
@@ -66,11 +67,17 @@ slice-aggregate-feed-arabic-french c = search needs
 feed-arabic-french-requires : tie.Need-feed-arabic-french-requires
 feed-arabic-french-requires c κs = search needs
 
+array-copy-out-end-decoder-5 : tie.Need-array-copy-out-end-decoder-5
+array-copy-out-end-decoder-5 c = search needs
+
+end-decoder-requires-5 : tie.Need-end-decoder-requires-5
+end-decoder-requires-5 c κs = search needs
+
 returns : tie.Need-returns
 returns c =
-    let s = c .before .before .before .before .before .before .before .before .before .before .before .before .before .before .before .before .before .before .before .before .before .before .before .before .before .before .before .before in
-    let w = c .before .before .before .before .before .before .before .before .before .before .before .before .before .before .before .before .wrapping-add-u64 .ensures in
-    end-eight (lent s) (s .args .body) (s .args .t1) nowhere (long s) _ ((ended-read (s .args .body) (s .args .t1) _ 0 (rw (long s) (omega arith)) _ (c .before .before .before .before .before .before .before .before .before .before .before .before .before .before .end-decoder .ensures), λ h. absurd (omega (arith, h))), ((ended-read (s .args .body) (s .args .t1) _ 1 (rw (long s) (omega arith)) _ (c .before .before .before .before .before .before .before .before .before .before .before .before .end-decoder2 .ensures), λ h. absurd (omega (arith, h))), ((ended-read (s .args .body) (s .args .t1) _ 2 (rw (long s) (omega arith)) _ (c .before .before .before .before .before .before .before .before .before .before .end-decoder3 .ensures), λ h. absurd (omega (arith, h))), ((ended-read (s .args .body) (s .args .t1) _ 3 (rw (long s) (omega arith)) _ (c .before .before .before .before .before .before .before .before .end-decoder4 .ensures), λ h. absurd (omega (arith, h))), ((rw w at (c .before .before .before .before .before .before .feed-caseless .ensures .0), λ h. c .before .before .before .before .before .before .feed-caseless .ensures .1), ((rw w at (c .before .before .before .before .feed-logical .ensures .0), λ h. c .before .before .before .before .feed-logical .ensures .1), ((rw w at (c .before .before .feed-visual .ensures .0), λ h. c .before .before .feed-visual .ensures .1), ((rw w at (c .feed-arabic-french .ensures .0), λ h. c .feed-arabic-french .ensures .1), tt))))))))
+    let s = c .before .before .before .before .before .before .before .before .before .before .before .before .before .before .before .before .before .before .before .before .before .before .before .before .before .before .before .before .before .before in
+    let w = c .before .before .before .before .before .before .before .before .before .before .before .before .before .before .before .before .before .before .wrapping-add-u64 .ensures in
+    end-listed (lent s) (s .args .body) (s .args .t1) nowhere (long s) _ ((ended-read (s .args .body) (s .args .t1) _ 0 (rw (long s) (omega arith)) _ (c .before .before .before .before .before .before .before .before .before .before .before .before .before .before .before .before .end-decoder .ensures), λ h. absurd (no-truth h)), ((ended-read (s .args .body) (s .args .t1) _ 1 (rw (long s) (omega arith)) _ (c .before .before .before .before .before .before .before .before .before .before .before .before .before .before .end-decoder2 .ensures), λ h. absurd (no-truth h)), ((ended-read (s .args .body) (s .args .t1) _ 2 (rw (long s) (omega arith)) _ (c .before .before .before .before .before .before .before .before .before .before .before .before .end-decoder3 .ensures), λ h. absurd (no-truth h)), ((ended-read (s .args .body) (s .args .t1) _ 3 (rw (long s) (omega arith)) _ (c .before .before .before .before .before .before .before .before .before .before .end-decoder4 .ensures), λ h. absurd (no-truth h)), ((rw w at (c .before .before .before .before .before .before .before .before .feed-caseless .ensures .0), λ h. c .before .before .before .before .before .before .before .before .feed-caseless .ensures .1), ((rw w at (c .before .before .before .before .before .before .feed-logical .ensures .0), λ h. c .before .before .before .before .before .before .feed-logical .ensures .1), ((rw w at (c .before .before .before .before .feed-visual .ensures .0), λ h. c .before .before .before .before .feed-visual .ensures .1), ((rw w at (c .before .before .feed-arabic-french .ensures .0), λ h. c .before .before .feed-arabic-french .ensures .1), ((ended-read (s .args .body) (s .args .t1) _ 8 (rw (long s) (omega arith)) _ (c .end-decoder5 .ensures), λ h. absurd (no-truth h)), tt)))))))))
 
 pub end-each-spec : {M : Type 1} → statement M
 end-each-spec =
@@ -93,4 +100,6 @@ end-each-spec =
     feed-visual-requires
     slice-aggregate-feed-arabic-french
     feed-arabic-french-requires
+    array-copy-out-end-decoder-5
+    end-decoder-requires-5
     returns)

@@ -52,9 +52,15 @@ fresh-requires-8 c κs = search needs
 begun-requires-8 : tie.Need-begun-requires-8
 begun-requires-8 c κs = search needs
 
+fresh-requires-9 : tie.Need-fresh-requires-9
+fresh-requires-9 c κs = search needs
+
+begun-requires-9 : tie.Need-begun-requires-9
+begun-requires-9 c κs = search needs
+
 returns : tie.Need-returns
 unfolding startOf
-returns c = rw (c .begun8 .ensures, c .before .fresh8 .ensures, c .before .before .begun7 .ensures, c .before .before .before .fresh7 .ensures, c .before .before .before .before .begun6 .ensures, c .before .before .before .before .before .fresh6 .ensures, c .before .before .before .before .before .before .begun5 .ensures, c .before .before .before .before .before .before .before .fresh5 .ensures, c .before .before .before .before .before .before .before .before .begun4 .ensures, c .before .before .before .before .before .before .before .before .before .fresh4 .ensures, c .before .before .before .before .before .before .before .before .before .before .begun3 .ensures, c .before .before .before .before .before .before .before .before .before .before .before .fresh3 .ensures, c .before .before .before .before .before .before .before .before .before .before .before .before .begun2 .ensures, c .before .before .before .before .before .before .before .before .before .before .before .before .before .fresh2 .ensures, c .before .before .before .before .before .before .before .before .before .before .before .before .before .before .begun .ensures, c .before .before .before .before .before .before .before .before .before .before .before .before .before .before .before .fresh .ensures)
+returns c = rw (c .begun9 .ensures, c .before .fresh9 .ensures, c .before .before .begun8 .ensures, c .before .before .before .fresh8 .ensures, c .before .before .before .before .begun7 .ensures, c .before .before .before .before .before .fresh7 .ensures, c .before .before .before .before .before .before .begun6 .ensures, c .before .before .before .before .before .before .before .fresh6 .ensures, c .before .before .before .before .before .before .before .before .begun5 .ensures, c .before .before .before .before .before .before .before .before .before .fresh5 .ensures, c .before .before .before .before .before .before .before .before .before .before .begun4 .ensures, c .before .before .before .before .before .before .before .before .before .before .before .fresh4 .ensures, c .before .before .before .before .before .before .before .before .before .before .before .before .begun3 .ensures, c .before .before .before .before .before .before .before .before .before .before .before .before .before .fresh3 .ensures, c .before .before .before .before .before .before .before .before .before .before .before .before .before .before .begun2 .ensures, c .before .before .before .before .before .before .before .before .before .before .before .before .before .before .before .fresh2 .ensures, c .before .before .before .before .before .before .before .before .before .before .before .before .before .before .before .before .begun .ensures, c .before .before .before .before .before .before .before .before .before .before .before .before .before .before .before .before .before .fresh .ensures)
 
 pub start-spec : {M : Type 1} → statement M
 start-spec =
@@ -76,4 +82,6 @@ start-spec =
     begun-requires-7
     fresh-requires-8
     begun-requires-8
+    fresh-requires-9
+    begun-requires-9
     returns)

@@ -10,7 +10,7 @@ abbrev Inv-loop : tie.InvT-loop
 Inv-loop places best₀ k₀ best k = Looked places best k
 
 abbrev μ-loop : tie.MeasureT-loop
-μ-loop places best₀ k₀ best k = 8 - k
+μ-loop places best₀ k₀ best k = 9 - k
 
 loop-holds : tie.Need-loop-holds Inv-loop μ-loop
 loop-holds c = looked-start (c .args .t1) (search needs)

@@ -1,7 +1,7 @@
 -- `Machine::close` meets its contract.
 use Rattle.weights.specs.Weights.{perByte}
 use Rattle.kinds.specs.Kinds.{closedOf}
-use Rattle.kinds.specs.KindsLaws.{bounded-utf-8, bounded-iso2022jp, bounded-euckr, bounded-big5, bounded-caseless, bounded-logical, bounded-visual, bounded-arabicFrench, closed-euckr, closed-big5}
+use Rattle.kinds.specs.KindsLaws.{bounded-utf-8, bounded-iso2022jp, bounded-euckr, bounded-big5, bounded-caseless, bounded-logical, bounded-visual, bounded-arabicFrench, bounded-shiftJis, closed-euckr, closed-big5}
 use borrow.Author.Needs.{needs}
 use Rattle.kinds.proofs.machine.Machine.close.Statement.{statement}
 use Rattle.kinds.proofs.machine.Machine.close.Tie as tie
@@ -78,6 +78,15 @@ close-requires-8 c κs = search needs
 of-arabic-french-requires : tie.Need-of-arabic-french-requires
 of-arabic-french-requires c κs = search needs
 
+enum-known-self-9 : tie.Need-enum-known-self-9
+enum-known-self-9 c = search needs
+
+close-requires-9 : tie.Need-close-requires-9
+close-requires-9 c κs = search needs
+
+of-shift-jis-requires : tie.Need-of-shift-jis-requires
+of-shift-jis-requires c κs = search needs
+
 returns : tie.Need-returns
 unfolding closedOf
 returns c = (rw (c .of-utf8 .ensures, c .before .close .ensures, c .before .before .before .self .given .1), rw (c .of-utf8 .ensures) (bounded-utf-8 perByte (c .before .close .result)))
@@ -110,6 +119,10 @@ returns-8 : tie.Need-returns-8
 unfolding closedOf
 returns-8 c = (rw (c .of-arabic-french .ensures, c .before .close8 .ensures .0, c .before .before .before .self8 .given .1), rw (c .of-arabic-french .ensures) (bounded-arabicFrench perByte (c .before .close8 .result) (c .before .close8 .ensures .1)))
 
+returns-9 : tie.Need-returns-9
+unfolding closedOf
+returns-9 c = (rw (c .of-shift-jis .ensures, c .before .close9 .ensures, c .before .before .before .self9 .given .1), rw (c .of-shift-jis .ensures) (bounded-shiftJis perByte (c .before .close9 .result)))
+
 pub close-spec : {M : Type 1} → statement M
 close-spec =
     tie.close
@@ -138,6 +151,9 @@ close-spec =
     enum-known-self-8
     close-requires-8
     of-arabic-french-requires
+    enum-known-self-9
+    close-requires-9
+    of-shift-jis-requires
     returns
     returns-2
     returns-3
@@ -145,4 +161,5 @@ close-spec =
     returns-5
     returns-6
     returns-7
-    returns-8)
+    returns-8
+    returns-9)

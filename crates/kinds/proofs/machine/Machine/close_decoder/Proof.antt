@@ -51,6 +51,15 @@ enum-told-3 c = search needs
 enum-told-4 : tie.Need-enum-told-4
 enum-told-4 c = search needs
 
+enum-known-self-5 : tie.Need-enum-known-self-5
+enum-known-self-5 c = search needs
+
+close-requires-5 : tie.Need-close-requires-5
+close-requires-5 c κs = search needs
+
+of-shift-jis-requires : tie.Need-of-shift-jis-requires
+of-shift-jis-requires c κs = search needs
+
 returns : tie.Need-returns
 returns c = rw (c .of-utf8 .ensures, c .before .close .ensures, c .before .before .before .self .given .1)
 
@@ -75,6 +84,9 @@ returns-7 c = search needs
 returns-8 : tie.Need-returns-8
 returns-8 c = search needs
 
+returns-9 : tie.Need-returns-9
+returns-9 c = rw (c .of-shift-jis .ensures, c .before .close5 .ensures, c .before .before .before .self5 .given .1)
+
 pub close-decoder-spec : {M : Type 1} → statement M
 close-decoder-spec =
     tie.close
@@ -95,6 +107,9 @@ close-decoder-spec =
     enum-told-2
     enum-told-3
     enum-told-4
+    enum-known-self-5
+    close-requires-5
+    of-shift-jis-requires
     returns
     returns-2
     returns-3
@@ -102,4 +117,5 @@ close-decoder-spec =
     returns-5
     returns-6
     returns-7
-    returns-8)
+    returns-8
+    returns-9)

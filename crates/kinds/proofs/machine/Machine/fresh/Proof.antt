@@ -52,6 +52,12 @@ enum-told-8 c = search needs
 fresh-requires-8 : tie.Need-fresh-requires-8
 fresh-requires-8 c κs = search needs
 
+enum-told-9 : tie.Need-enum-told-9
+enum-told-9 c = search needs
+
+fresh-requires-9 : tie.Need-fresh-requires-9
+fresh-requires-9 c κs = search needs
+
 returns : tie.Need-returns
 unfolding freshOf
 returns c = rw (c .fresh .ensures, c .before .enum-told .given .1)
@@ -84,6 +90,10 @@ returns-8 : tie.Need-returns-8
 unfolding freshOf
 returns-8 c = rw (c .fresh8 .ensures, c .before .enum-told8 .given .1)
 
+returns-9 : tie.Need-returns-9
+unfolding freshOf
+returns-9 c = rw (c .fresh9 .ensures, c .before .enum-told9 .given .1)
+
 pub fresh-spec : {M : Type 1} → statement M
 fresh-spec =
     tie.close
@@ -104,6 +114,8 @@ fresh-spec =
     fresh-requires-7
     enum-told-8
     fresh-requires-8
+    enum-told-9
+    fresh-requires-9
     returns
     returns-2
     returns-3
@@ -111,4 +123,5 @@ fresh-spec =
     returns-5
     returns-6
     returns-7
-    returns-8)
+    returns-8
+    returns-9)
