@@ -1,4 +1,4 @@
--- A buffer of 1,024 bytes has room for what any state tells of any file, and for every answer.
+-- A buffer of 1,280 bytes has room for what any state tells of any file, and for every answer.
 use mathlib.Core.Path.{_≡_, refl}
 use mathlib.Core.List.{List, [], _∷_, _++_}
 use Prim.Native.Nat.{ℕ, suc, _*_}
@@ -10,11 +10,12 @@ use Rattle.names.specs.NamesLaws.{place-name}
 use Rattle.scribe.specs.FitsLaws.{Fits, text, line-end, joined, wide, decimal, signed, whole}
 use Rattle.scribe.specs.Page.{page, onto}
 use Rattle.spot.specs.FitsLaws.{dropped-short}
+use Rattle.tables.specs.Own.{placeCount}
 use Rattle.places.specs.declared.place.Place.{Place}
 use Rattle.places.specs.declared.place.Score as score
 use Rattle.state.specs.declared.State.{State}
 use Rattle.label.specs.Label.{most, stateOf}
-use Rattle.label.specs.RoomLaws.{eight}
+use Rattle.label.specs.RoomLaws.{all-places}
 use Rattle.account.specs.Account.{headLength, toldText, placeLine, placeLines, countLines, accountOf, answerOf}
 
 module _ (file : List ℕ) (head : ℕ) where
@@ -37,16 +38,16 @@ unfolding countLines
 counts bytes head =
     joined (joined (joined (joined (joined (joined (joined (text "why 1") line-end) (text "bytes ")) (decimal bytes)) line-end) (text "head ")) (decimal head)) line-end
 
-pub account-short : (file : List ℕ) (s : State) → length (s .places) ≡ 8 → Fits 1024 (accountOf file s)
+pub account-short : (file : List ℕ) (s : State) → length (s .places) ≡ placeCount → Fits 1280 (accountOf file s)
 unfolding accountOf
 account-short file s e =
     let f = joined (counts (s .front .bytes) (headLength (s .front))) (places file (headLength (s .front)) 0 (s .places)) in
     record { short = omega (arith, e, f .short) }
 
-pub answer-short : (file : List ℕ) → Fits 1024 (answerOf file)
+pub answer-short : (file : List ℕ) → Fits 1280 (answerOf file)
 unfolding answerOf
-answer-short file = picked (Fits 1024) (ltb most (length file)) (wide (joined (text "too long") line-end) refl) (account-short file (stateOf file) (eight file))
+answer-short file = picked (Fits 1280) (ltb most (length file)) (wide (joined (text "too long") line-end) refl) (account-short file (stateOf file) (all-places file))
 
 -- What is written into such a buffer is the whole answer.
-pub answer-whole : (file xs : List ℕ) → length xs ≡ 1024 → onto (page xs 0) (answerOf file) ≡ page (answerOf file ++ drop (length (answerOf file)) xs) (length (answerOf file))
-answer-whole file xs h = whole 1024 xs (answerOf file) (answer-short file) (omega arith)
+pub answer-whole : (file xs : List ℕ) → length xs ≡ 1280 → onto (page xs 0) (answerOf file) ≡ page (answerOf file ++ drop (length (answerOf file)) xs) (length (answerOf file))
+answer-whole file xs h = whole 1280 xs (answerOf file) (answer-short file) (omega arith)

@@ -1,11 +1,11 @@
 -- Of a file whose bytes a state in order has accepted: a drop-out by a byte after the head is told by a byte of the file, and that is
 -- the byte at which the run over the part ended; a class 255 is told so too, or by the file's end.
 use mathlib.Core.Path.{_≡_, refl, ap, sym, _∙_}
-use mathlib.Core.Bool.{Bool, true, _&&_, _||_}
+use mathlib.Core.Bool.{Bool, true, not, _&&_, _||_}
 use mathlib.Core.List.{List}
 use Prim.Native.Nat.{ℕ, suc, _+_, _-_, _≤_, _<_}
 use native.Mathlib.Omega.{arith}
-use lib.Dec.{eqb, leb, ltb}
+use lib.Dec.{eqb, leb}
 use lib.ListN.{length, getD, drop, length-drop}
 use lib.Seq.{getD-drop}
 use borrow.Author.Tests.{leb-true}
@@ -14,6 +14,7 @@ use Rattle.laws.specs.declared.Reason.{Reason}
 use Rattle.laws.specs.declared.Reason.the-variants.{Class255, BadByte, BadSecondByte, BrokenEscape, CutAtClose, NotInSlate}
 use Rattle.spot.specs.PlaceLaws.{byte-told, byte-in-file}
 use Rattle.spot.specs.Spot.{byteText, atPlaceText, whereText}
+use Rattle.kinds.specs.Kinds.{isSingle}
 use Rattle.places.specs.Order.{spacedOf, droppedB}
 use Rattle.places.specs.Place.{byteAt}
 use Rattle.state.specs.Order.{InOrder}
@@ -56,7 +57,7 @@ module _ (file : List ℕ) (s : State) (order : InOrder s) (whole : s .front .by
   low : (k : ℕ) (d : Reason) (n : ℕ) → AtByte d → Dropped k d (suc n) → n < body
   unfolding droppedB
   low k Class255 n b e = absurd b
-  low k BadByte n b e = last (ltb k 4) (suc n) body e
+  low k BadByte n b e = last (not (isSingle k)) (suc n) body e
   low k BadSecondByte n b e = last (eqb k 2 || eqb k 3) (suc n) body e
   low k BrokenEscape n b e = last (eqb k 1) (suc n) body e
   low k CutAtClose n b e = absurd b
@@ -79,7 +80,7 @@ module _ (file : List ℕ) (s : State) (order : InOrder s) (whole : s .front .by
   pub class-told : (k n : ℕ) → Dropped k Class255 (suc n) → n ≤ body
   unfolding droppedB
   class-told k n e =
-      let h = last (leb 4 k) (suc n) (spacedOf body (s .front .closed)) e in
+      let h = last (isSingle k) (suc n) (spacedOf body (s .front .closed)) e in
       either (λ (m : ℕ). suc n ≤ m → n ≤ body) (s .front .closed) (λ q r. omega (arith, r)) (λ q r. omega (arith, r)) h
 
   -- the marked byte is the one at which the run over the part, the file's rest from j on, ended

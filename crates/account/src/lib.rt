@@ -8,16 +8,16 @@ use label;
 use label::MOST;
 use libc::STDOUT_FILENO;
 use names;
+use places::place::PLACES;
 use places::place::Score;
 use places::place::Slate;
-use places::slate::PLACES;
 use scribe::page;
 use spot;
 use state::State;
 use state::front::Front;
 
 // A buffer of so many bytes has room for every answer.
-pub const ROOM: usize = 1_024;
+pub const ROOM: usize = 1_280;
 
 // How many bytes the head has.
 fn head_length(front: Front) -> u64

@@ -17,7 +17,7 @@ most = 65536
 
 -- all places in, the label as one closing chunk
 unfoldable pub stateOf : List ℕ → State
-stateOf label = feedOf demonstration (startOf 255) label true .state
+stateOf label = feedOf demonstration (startOf 511) label true .state
 
 unfoldable pub answerOf : List ℕ → List ℕ
 answerOf label = cond (ltb most (length label)) (ascii "too long" ++ newline) (sheetOf (stateOf label))

@@ -17,12 +17,12 @@ use Rattle.demo.specs.Demo.{demonstration}
 use Rattle.demo.specs.DemoLaws.{demonstration-sized}
 use Rattle.label.specs.Label.{most}
 
-judged : (bs : List ℕ) → length bs ≤ most → refusalOf demonstration (startOf 255) bs ≡ Accept
+judged : (bs : List ℕ) → length bs ≤ most → refusalOf demonstration (startOf 511) bs ≡ Accept
 unfolding verdictOf
 judged bs h =
-    rw (true-order (startOf 255) (start-in-order 255), true-sized demonstration demonstration-sized, zero-add, le-ltb limit (length bs) (omega arith))
+    rw (true-order (startOf 511) (start-in-order 511), true-sized demonstration demonstration-sized, zero-add, le-ltb limit (length bs) (omega arith))
 
 -- so what the sheet of such a label shows is what all its bytes made of the start
-pub label-accepted : (bs : List ℕ) → length bs ≤ most → feedOf demonstration (startOf 255) bs true ≡ accepted (advanceOf demonstration (startOf 255) bs true)
+pub label-accepted : (bs : List ℕ) → length bs ≤ most → feedOf demonstration (startOf 511) bs true ≡ accepted (advanceOf demonstration (startOf 511) bs true)
 unfolding feedBy
 label-accepted bs h = rw (judged bs h)

@@ -11,6 +11,7 @@ use Rattle.names.specs.NamesLaws.{place-name}
 use Rattle.scribe.specs.FitsLaws.{Fits, text, line-end, joined, wide, decimal, signed, whole}
 use Rattle.scribe.specs.Page.{page, onto}
 use Rattle.tables.specs.Tables.{Tables}
+use Rattle.tables.specs.Own.{placeCount}
 use Rattle.places.specs.Slate.{feedFrom, feedAll}
 use Rattle.places.specs.Slate.{startOf as startPlaces}
 use Rattle.places.specs.declared.place.Place.{Place}
@@ -42,16 +43,16 @@ unfolding placeLines
 places k [] = record { short = omega arith }
 places k (p ∷ ps) = record { short = omega (arith, joined (place k (p .score)) (places (suc k) ps) .short) }
 
-pub sheet-short : (s : State) → length (s .places) ≡ 8 → Fits 512 (sheetOf s)
+pub sheet-short : (s : State) → length (s .places) ≡ placeCount → Fits 512 (sheetOf s)
 unfolding sheetOf
 sheet-short s e =
     let bytes = joined (joined (text "bytes ") (decimal (s .front .bytes))) line-end in
     let nonascii = joined (joined (text "nonascii ") (decimal (s .front .«non_ascii_seen»))) line-end in
-    let f = joined (joined (joined (joined (joined (text "slate 1") line-end) bytes) nonascii) (places 0 (s .places))) (leader-short (leaderOf s)) in
+    let f = joined (joined (joined (joined (joined (text "slate 2") line-end) bytes) nonascii) (places 0 (s .places))) (leader-short (leaderOf s)) in
     record { short = omega (arith, e, f .short) }
 
 -- What is written into such a buffer is the whole sheet.
-pub sheet-whole : (s : State) (xs : List ℕ) → length (s .places) ≡ 8 → length xs ≡ 512 → onto (page xs 0) (sheetOf s) ≡ page (sheetOf s ++ drop (length (sheetOf s)) xs) (length (sheetOf s))
+pub sheet-whole : (s : State) (xs : List ℕ) → length (s .places) ≡ placeCount → length xs ≡ 512 → onto (page xs 0) (sheetOf s) ≡ page (sheetOf s ++ drop (length (sheetOf s)) xs) (length (sheetOf s))
 sheet-whole s xs e h = whole 512 xs (sheetOf s) (sheet-short s e) (omega arith)
 
 -- ---- an answer: a feed leaves as many places as there were
@@ -71,13 +72,13 @@ module _ (t : Tables) where
   fed-length s bs last Accept = places-length last (frontOf (s .front) bs last .body) (s .places) (reachesOf (s .front) bs)
   fed-length s bs last (Refuse r) = refl
 
-pub eight : (bs : List ℕ) → length (stateOf bs .places) ≡ 8
+pub all-places : (bs : List ℕ) → length (stateOf bs .places) ≡ placeCount
 unfolding stateOf startPlaces
-eight bs = fed-length demonstration (startOf 255) bs true (refusalOf demonstration (startOf 255) bs)
+all-places bs = fed-length demonstration (startOf 511) bs true (refusalOf demonstration (startOf 511) bs)
 
 pub answer-short : (bs : List ℕ) → Fits 512 (answerOf bs)
 unfolding answerOf
-answer-short bs = picked (Fits 512) (ltb most (length bs)) (wide (joined (text "too long") line-end) refl) (sheet-short (stateOf bs) (eight bs))
+answer-short bs = picked (Fits 512) (ltb most (length bs)) (wide (joined (text "too long") line-end) refl) (sheet-short (stateOf bs) (all-places bs))
 
 -- What is written into such a buffer is the whole answer.
 pub answer-whole : (bs xs : List ℕ) → length xs ≡ 512 → onto (page xs 0) (answerOf bs) ≡ page (answerOf bs ++ drop (length (answerOf bs)) xs) (length (answerOf bs))

@@ -28,6 +28,9 @@ pub const MOST: usize = 65_536;
 // As many bytes as tell that a label is too long.
 pub const READ: usize = MOST + 1;
 
+// Every place takes part.
+const ALL: u16 = 0x1FF;
+
 // All places in, the label as one closing chunk; the four single-byte places have the same tables.
 fn over(
     label: &[u8],
@@ -40,10 +43,11 @@ fn over(
     extras: &[i16; EXTRAS],
     weights: &[i32; WEIGHTS],
 ) -> State
-    ensures { λ r. ⌜ r ≡ feedOf (tables (now (classes .entry)) (now (marks .entry)) (now (pairs .entry)) (now (classes .entry)) (now (marks .entry)) (now (pairs .entry)) (now (classes .entry)) (now (marks .entry)) (now (pairs .entry)) (now (classes .entry)) (now (marks .entry)) (now (pairs .entry)) (now (big5 .entry)) (now (euckr .entry)) (now (jis .entry)) (now (extras .entry)) (now (weights .entry))) (startOf 255) (now (label .entry)) true .state ⌝ }
+    ensures { λ r. ⌜ r ≡ feedOf (tables (now (classes .entry)) (now (marks .entry)) (now (pairs .entry)) (now (classes .entry)) (now (marks .entry)) (now (pairs .entry)) (now (classes .entry)) (now (marks .entry)) (now (pairs .entry)) (now (classes .entry)) (now (marks .entry)) (now (pairs .entry)) (now (big5 .entry)) (now (euckr .entry)) (now (jis .entry)) (now (extras .entry)) (now (weights .entry))) (startOf 511) (now (label .entry)) true .state ⌝ }
 {
+    let begun = state::start(ALL);
     let fed = feed::feed(
-        state::start(0xFF),
+        begun.state,
         label,
         true,
         classes,

@@ -13,6 +13,7 @@ use Rattle.caseless.specs.declared.Caseless.{Caseless}
 use Rattle.logical.specs.declared.Logical.{Logical}
 use Rattle.visual.specs.declared.Visual.{Visual}
 use Rattle.arabic_french.specs.declared.ArabicFrench.{ArabicFrench}
+use Rattle.shift_jis.specs.declared.ShiftJis.{ShiftJis}
 use Rattle.lines.specs.Names.{stateName, outName, koreanName, cjName, caseName}
 
 unfoldable pub heldText : Held → List ℕ
@@ -81,3 +82,6 @@ arabicFrenchText m =
     ++ ascii " case="
     ++ caseName (m .«case_state»)
     ++ wordsText (m .«current_word_len») (m .«longest_word»)
+
+unfoldable pub shiftJisText : ShiftJis → List ℕ
+shiftJisText m = ascii " lead=" ++ hexOf (m .lead)

@@ -1,8 +1,8 @@
--- A buffer of 2,048 bytes has room for the ten lines of any state: no number has more than 20 digits, and the words are short.
+-- A buffer of 2,048 bytes has room for the eleven lines of any state: no number has more than 20 digits, and the words are short.
 use mathlib.Core.Path.{_≡_, refl}
 use mathlib.Core.Bool.{Bool}
 use mathlib.Core.List.{List, [], _∷_, _++_}
-use Prim.Native.Nat.{ℕ, zero, suc, _*_, _≤_}
+use Prim.Native.Nat.{ℕ, zero, suc, _*_}
 use native.Mathlib.Omega.{arith}
 use lib.ListN.{length, take, drop}
 use lib.Seq.{take-nil}
@@ -10,7 +10,6 @@ use Rattle.laws.specs.declared.Reason.{Reason}
 use Rattle.names.specs.NamesLaws.{place-name, reason-name}
 use Rattle.scribe.specs.FitsLaws.{Fits, text, line-end, joined, wide, flag, hex, decimal, signed, whole}
 use Rattle.scribe.specs.Page.{page, onto}
-use Rattle.context.specs.Context.{bytesOf}
 use Rattle.pairs.specs.declared.Held.{Held}
 use Rattle.pairs.specs.declared.Held.the-variants.{Nothing, Score}
 use Rattle.big5.specs.declared.LatinCj as cj
@@ -26,16 +25,17 @@ use Rattle.caseless.specs.declared.Caseless as caseless
 use Rattle.logical.specs.declared.Logical as logical
 use Rattle.visual.specs.declared.Visual as visual
 use Rattle.arabic_french.specs.declared.ArabicFrench as arabicFrench
+use Rattle.shift_jis.specs.declared.ShiftJis as shiftJis
 use Rattle.kinds.specs.Kinds.{placeNumber}
 use Rattle.kinds.specs.declared.machine.Machine.{Machine}
-use Rattle.kinds.specs.declared.machine.Machine.the-variants.{Utf8, Iso2022Jp, EucKr, Big5, Caseless, Logical, Visual, ArabicFrench}
+use Rattle.kinds.specs.declared.machine.Machine.the-variants.{Utf8, Iso2022Jp, EucKr, Big5, Caseless, Logical, Visual, ArabicFrench, ShiftJis}
 use Rattle.places.specs.declared.place.Place.{Place}
 use Rattle.places.specs.declared.place.Score as score
 use Rattle.sheet.specs.SheetLaws.{leader-short}
 use Rattle.state.specs.Leader.{leaderOf}
 use Rattle.state.specs.declared.State.{State}
 use Rattle.state.specs.declared.front.Front.{Front}
-use Rattle.lines.specs.Fields.{heldText, utf8Text, iso2022jpText, euckrText, big5Text, classText, wordsText, caselessText, logicalText, visualText, arabicFrenchText}
+use Rattle.lines.specs.Fields.{heldText, utf8Text, iso2022jpText, euckrText, big5Text, classText, wordsText, caselessText, logicalText, visualText, arabicFrenchText, shiftJisText}
 use Rattle.lines.specs.Names.{stateName, outName, koreanName, cjName, caseName}
 use Rattle.lines.specs.Show.{savedText, bytesText, frontText, recordText, droppedText, scoredText, placeText, placesText, stateText}
 
@@ -92,7 +92,7 @@ unfolding wordsText
 words current longest = joined (joined (text " word=") (decimal current)) (joined (text " longest=") (decimal longest))
 
 in-record : (m : Machine) → Fits 128 (recordText m)
-unfolding recordText utf8Text iso2022jpText euckrText big5Text caselessText logicalText visualText arabicFrenchText
+unfolding recordText utf8Text iso2022jpText euckrText big5Text caselessText logicalText visualText arabicFrenchText shiftJisText
 in-record (Utf8 m) = wide (joined (joined (joined (text " need=") (decimal (m .need))) (joined (text " lo=") (hex (m .lo)))) (joined (text " hi=") (hex (m .hi)))) refl
 in-record (Iso2022Jp m) = wide (joined (joined (joined (joined (joined (text " state=") (state-name (m .state))) (text " out=")) (out-name (m .out))) (joined (text " lead=") (hex (m .lead)))) (joined (text " output=") (flag (m .output)))) refl
 in-record (EucKr m) = wide (joined (joined (joined (joined (joined (joined (joined (text " lead=") (hex (m .lead))) (joined (text " byte=") (hex (m .«prev_byte»)))) (joined (text " euc=") (flag (m .«prev_was_euc_range»)))) (text " prev=")) (korean-name (m .prev))) (joined (text " word=") (decimal (m .«current_word_len»)))) (joined (text " held=") (held (m .held)))) refl
@@ -101,6 +101,7 @@ in-record (Caseless m) = wide (joined (class (m .prev) (m .«prev_ascii»)) (wor
 in-record (Logical m) = wide (joined (joined (class (m .prev) (m .«prev_ascii»)) (joined (text " punct=") (decimal (m .«plausible_punctuation»)))) (words (m .«current_word_len») (m .«longest_word»))) refl
 in-record (Visual m) = wide (joined (joined (joined (class (m .prev) (m .«prev_ascii»)) (joined (text " prevpunct=") (flag (m .«prev_punctuation»)))) (joined (text " punct=") (decimal (m .«plausible_punctuation»)))) (words (m .«current_word_len») (m .«longest_word»))) refl
 in-record (ArabicFrench m) = wide (joined (joined (joined (class (m .prev) (m .«prev_ascii»)) (text " case=")) (case-name (m .«case_state»))) (words (m .«current_word_len») (m .«longest_word»))) refl
+in-record (ShiftJis m) = wide (joined (text " lead=") (hex (m .lead))) refl
 
 -- ---- lines
 dropped : (d : Reason) (at : ℕ) → Fits 43 (droppedText d at)
@@ -132,12 +133,12 @@ front : (f : Front) → Fits 117 (frontText f)
 unfolding frontText
 front f = joined (joined (joined (joined (joined (joined (text "front context=") (saved (f .context .len) (f .context .first) (f .context .second))) (joined (text " esc=") (flag (f .«esc_seen»)))) (joined (text " nonascii=") (decimal (f .«non_ascii_seen»)))) (joined (text " closed=") (flag (f .closed)))) (bytes (f .bytes) (f .body))) line-end
 
-pub state-short : (s : State) → length (s .places) ≡ 8 → Fits 2048 (stateText s)
+pub state-short : (s : State) → length (s .places) ≡ 9 → Fits 2048 (stateText s)
 unfolding stateText
 state-short s e =
     let f = joined (joined (front (s .front)) (places (s .places))) (leader-short (leaderOf s)) in
     record { short = omega (arith, e, f .short) }
 
 -- What is written into such a buffer is the whole text.
-pub state-whole : (s : State) (xs : List ℕ) → length (s .places) ≡ 8 → length xs ≡ 2048 → onto (page xs 0) (stateText s) ≡ page (stateText s ++ drop (length (stateText s)) xs) (length (stateText s))
+pub state-whole : (s : State) (xs : List ℕ) → length (s .places) ≡ 9 → length xs ≡ 2048 → onto (page xs 0) (stateText s) ≡ page (stateText s ++ drop (length (stateText s)) xs) (length (stateText s))
 state-whole s xs e h = whole 2048 xs (stateText s) (state-short s e) (omega arith)

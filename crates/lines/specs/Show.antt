@@ -1,4 +1,4 @@
--- Whole lines as text: a reply's, and the ten of a state.
+-- Whole lines as text: a reply's, a refused start's, and the eleven of a state.
 use mathlib.Core.List.{List, [], _∷_, _++_}
 use Prim.Native.Nat.{ℕ}
 use Rattle.laws.specs.declared.Reason.{Reason}
@@ -7,19 +7,25 @@ use Rattle.scribe.specs.Text.{ascii, newline, flagOf, hexOf, decimalOf, signedO
 use Rattle.context.specs.Context.{bytesOf}
 use Rattle.kinds.specs.Kinds.{placeNumber}
 use Rattle.kinds.specs.declared.machine.Machine.{Machine}
-use Rattle.kinds.specs.declared.machine.Machine.the-variants.{Utf8, Iso2022Jp, EucKr, Big5, Caseless, Logical, Visual, ArabicFrench}
+use Rattle.kinds.specs.declared.machine.Machine.the-variants.{Utf8, Iso2022Jp, EucKr, Big5, Caseless, Logical, Visual, ArabicFrench, ShiftJis}
 use Rattle.places.specs.declared.place.Place.{Place}
 use Rattle.places.specs.declared.place.Score as score
 use Rattle.sheet.specs.Sheet.{leaderLine}
 use Rattle.state.specs.Leader.{leaderOf}
 use Rattle.state.specs.Reply as reply
 use Rattle.state.specs.declared.reply.Reply.{Reply}
+use Rattle.state.specs.declared.reply.StartReply as start
 use Rattle.state.specs.declared.front.Front.{Front}
 use Rattle.state.specs.declared.State.{State}
-use Rattle.lines.specs.Fields.{utf8Text, iso2022jpText, euckrText, big5Text, caselessText, logicalText, visualText, arabicFrenchText}
+use Rattle.lines.specs.Fields.{utf8Text, iso2022jpText, euckrText, big5Text, caselessText, logicalText, visualText, arabicFrenchText, shiftJisText}
 
 unfoldable pub replyText : Reply → List ℕ
 replyText r = (ascii "reply " ++ decimalOf (reply.numberOf r)) ++ (ascii " " ++ flagOf (reply.replyFlag r)) ++ newline
+
+-- a start that was accepted has no line
+unfoldable pub startText : start.StartReply → List ℕ
+startText start.the-variants.Accepted = []
+startText start.the-variants.NoSuchPlace = (ascii "start " ++ decimalOf (reply.startNumber start.the-variants.NoSuchPlace)) ++ newline
 
 -- ---- the front
 abbrev pub hexesOf : List ℕ → List ℕ
@@ -55,6 +61,7 @@ recordText (Caseless m) = caselessText m
 recordText (Logical m) = logicalText m
 recordText (Visual m) = visualText m
 recordText (ArabicFrench m) = arabicFrenchText m
+recordText (ShiftJis m) = shiftJisText m
 
 -- a place without a score shows why and where, and nothing of its record
 unfoldable pub droppedText : Reason → ℕ → List ℕ

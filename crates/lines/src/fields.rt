@@ -1,7 +1,7 @@
 // A machine's record, the fields of its line after the score.
 ghost use mathlib.Core.Path.{_≡_};
 ghost use mathlib.Core.List.{_++_};
-ghost use Rattle.lines.specs.Fields.{heldText, utf8Text, iso2022jpText, euckrText, big5Text, classText, wordsText, caselessText, logicalText, visualText, arabicFrenchText};
+ghost use Rattle.lines.specs.Fields.{heldText, utf8Text, iso2022jpText, euckrText, big5Text, classText, wordsText, caselessText, logicalText, visualText, arabicFrenchText, shiftJisText};
 ghost use Rattle.scribe.specs.Page.{page, onto};
 ghost use Rattle.scribe.specs.Text.{ascii, flagOf, hexOf, decimalOf};
 use crate::terms;
@@ -13,6 +13,7 @@ use iso2022jp::Iso2022Jp;
 use logical::Logical;
 use pairs::Held;
 use scribe::page;
+use shift_jis::ShiftJis;
 use utf8::Utf8;
 use visual::Visual;
 
@@ -149,4 +150,10 @@ pub(crate) fn arabic_french(out: &mut [u8], at: usize, m: ArabicFrench) -> usize
     let b = page::word(out, a, b" case=");
     let c = terms::case(out, b, case_state);
     words(out, c, m.current_word_len, m.longest_word)
+}
+
+pub(crate) fn shift_jis(out: &mut [u8], at: usize, m: ShiftJis) -> usize
+    ensures { λ r. ⌜ page (now (out .exit)) r ≡ onto (page (now (out .entry)) at) (shiftJisText m) ⌝ }
+{
+    hex(out, at, b" lead=", m.lead)
 }

@@ -1,7 +1,7 @@
-// Whole lines: a reply, a place, and the ten of a state.
+// Whole lines: a reply, a place, and the eleven of a state.
 ghost use mathlib.Core.Path.{_≡_};
 ghost use Rattle.context.specs.Context.{bytesOf};
-ghost use Rattle.lines.specs.Show.{savedText, replyText, bytesText, frontText, recordText, droppedText, scoredText, placeText, placesText, stateText};
+ghost use Rattle.lines.specs.Show.{savedText, replyText, startText, bytesText, frontText, recordText, droppedText, scoredText, placeText, placesText, stateText};
 ghost use Rattle.scribe.specs.Page.{page, onto};
 ghost use Rattle.scribe.specs.Text.{newline};
 use crate::fields;
@@ -9,6 +9,7 @@ use context::Context;
 use kinds::machine::Machine;
 use laws::Reason;
 use names;
+use places::place::PLACES;
 use places::place::Place;
 use places::place::Score;
 use places::place::Slate;
@@ -18,6 +19,7 @@ use state::State;
 use state::front::Front;
 use state::leader;
 use state::reply::Reply;
+use state::reply::StartReply;
 
 fn end_line(out: &mut [u8], at: usize) -> usize
     ensures { λ r. ⌜ page (now (out .exit)) r ≡ onto (page (now (out .entry)) at) newline ⌝ }
@@ -31,6 +33,19 @@ pub fn reply(out: &mut [u8], at: usize, reply: Reply) -> usize
     let a = fields::count(out, at, b"reply ", fields::wide(reply.number()));
     let b = fields::flag(out, a, b" ", reply.flag());
     end_line(out, b)
+}
+
+// A start that is refused has a line, any other none.
+pub fn start(out: &mut [u8], at: usize, reply: StartReply) -> usize
+    ensures { λ r. ⌜ page (now (out .exit)) r ≡ onto (page (now (out .entry)) at) (startText reply) ⌝ }
+{
+    match reply {
+        StartReply::Accepted => at,
+        StartReply::NoSuchPlace => {
+            let a = fields::count(out, at, b"start ", fields::wide(reply.number()));
+            end_line(out, a)
+        }
+    }
 }
 
 // The bytes of the saved context, or `-`.
@@ -82,6 +97,7 @@ fn machine_fields(out: &mut [u8], at: usize, machine: Machine) -> usize
         Machine::Logical(m) => fields::logical(out, at, m),
         Machine::Visual(m) => fields::visual(out, at, m),
         Machine::ArabicFrench(m) => fields::arabic_french(out, at, m),
+        Machine::ShiftJis(m) => fields::shift_jis(out, at, m),
     }
 }
 
@@ -124,7 +140,7 @@ fn places(out: &mut [u8], at: usize, slate: Slate) -> usize
 {
     let mut to = at;
     let mut k = 0;
-    while k < 8 {
+    while k < PLACES {
         to = place(out, to, slate[k]);
         k += 1;
     }

@@ -8,10 +8,10 @@ use Rattle.scribe.specs.Text.{ascii}
 
 abbrev places : List (List ℕ)
 places =
-    ascii "utf-8" ∷ ascii "iso-2022-jp" ∷ ascii "euc-kr" ∷ ascii "big5" ∷ ascii "caseless" ∷ ascii "logical" ∷ ascii "visual" ∷ []
+    ascii "utf-8" ∷ ascii "iso-2022-jp" ∷ ascii "euc-kr" ∷ ascii "big5" ∷ ascii "caseless" ∷ ascii "logical" ∷ ascii "visual" ∷ ascii "arabic-french" ∷ []
 
 unfoldable pub placeName : ℕ → List ℕ
-placeName k = getD places k (ascii "arabic-french")
+placeName k = getD places k (ascii "shift_jis")
 
 -- why a place has no score
 unfoldable pub reasonName : Reason → List ℕ

@@ -7,16 +7,17 @@ use Rattle.names.specs.Names.{placeName, reasonName}
 use Rattle.scribe.specs.FitsLaws.{Fits, text, wide}
 use Rattle.scribe.specs.Text.{ascii}
 
-pub last-name : (k : ℕ) → (k ≡ 0 → ⊥) → (k ≡ 1 → ⊥) → (k ≡ 2 → ⊥) → (k ≡ 3 → ⊥) → (k ≡ 4 → ⊥) → (k ≡ 5 → ⊥) → (k ≡ 6 → ⊥) → ascii "arabic-french" ≡ placeName k
+pub last-name : (k : ℕ) → (k ≡ 0 → ⊥) → (k ≡ 1 → ⊥) → (k ≡ 2 → ⊥) → (k ≡ 3 → ⊥) → (k ≡ 4 → ⊥) → (k ≡ 5 → ⊥) → (k ≡ 6 → ⊥) → (k ≡ 7 → ⊥) → ascii "shift_jis" ≡ placeName k
 unfolding placeName
-last-name zero a b c d e f g = absurd (a refl)
-last-name (suc zero) a b c d e f g = absurd (b refl)
-last-name (suc (suc zero)) a b c d e f g = absurd (c refl)
-last-name (suc (suc (suc zero))) a b c d e f g = absurd (d refl)
-last-name (suc (suc (suc (suc zero)))) a b c d e f g = absurd (e refl)
-last-name (suc (suc (suc (suc (suc zero))))) a b c d e f g = absurd (f refl)
-last-name (suc (suc (suc (suc (suc (suc zero)))))) a b c d e f g = absurd (g refl)
-last-name (suc (suc (suc (suc (suc (suc (suc k))))))) a b c d e f g = refl
+last-name zero a b c d e f g h = absurd (a refl)
+last-name (suc zero) a b c d e f g h = absurd (b refl)
+last-name (suc (suc zero)) a b c d e f g h = absurd (c refl)
+last-name (suc (suc (suc zero))) a b c d e f g h = absurd (d refl)
+last-name (suc (suc (suc (suc zero)))) a b c d e f g h = absurd (e refl)
+last-name (suc (suc (suc (suc (suc zero))))) a b c d e f g h = absurd (f refl)
+last-name (suc (suc (suc (suc (suc (suc zero)))))) a b c d e f g h = absurd (g refl)
+last-name (suc (suc (suc (suc (suc (suc (suc zero))))))) a b c d e f g h = absurd (h refl)
+last-name (suc (suc (suc (suc (suc (suc (suc (suc k)))))))) a b c d e f g h = refl
 
 -- no name has more than 13 bytes
 pub place-name : (k : ℕ) → Fits 13 (placeName k)
@@ -28,7 +29,8 @@ place-name (suc (suc (suc zero))) = wide (text "big5") refl
 place-name (suc (suc (suc (suc zero)))) = wide (text "caseless") refl
 place-name (suc (suc (suc (suc (suc zero))))) = wide (text "logical") refl
 place-name (suc (suc (suc (suc (suc (suc zero)))))) = wide (text "visual") refl
-place-name (suc (suc (suc (suc (suc (suc (suc k))))))) = wide (text "arabic-french") refl
+place-name (suc (suc (suc (suc (suc (suc (suc zero))))))) = wide (text "arabic-french") refl
+place-name (suc (suc (suc (suc (suc (suc (suc (suc k)))))))) = wide (text "shift_jis") refl
 
 -- no reason's word has more than 15
 pub reason-name : (d : Reason) → Fits 15 (reasonName d)

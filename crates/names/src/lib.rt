@@ -1,4 +1,4 @@
-// The places' names, as document 01 spells them, and the reasons' words.
+// The places' names, as documents 01 and 02 spell them, and the reasons' words.
 ghost use mathlib.Core.Path.{_≡_};
 ghost use Rattle.names.specs.Names.{placeName, reasonName};
 ghost use Rattle.scribe.specs.Page.{page, onto};
@@ -18,7 +18,8 @@ pub fn place(out: &mut [u8], at: usize, k: usize) -> usize
         4 => page::word(out, at, b"caseless"),
         5 => page::word(out, at, b"logical"),
         6 => page::word(out, at, b"visual"),
-        _ => page::word(out, at, b"arabic-french"),
+        7 => page::word(out, at, b"arabic-french"),
+        _ => page::word(out, at, b"shift_jis"),
     }
 }
 

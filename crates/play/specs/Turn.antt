@@ -4,7 +4,7 @@ use mathlib.Core.List.{List, [], _∷_}
 use Prim.Native.Nat.{ℕ, _-_}
 use lib.ListN.{take, drop}
 use Rattle.tables.specs.Tables.{Tables}
-use Rattle.state.specs.State.{startOf}
+use Rattle.state.specs.State.{startedOf}
 use Rattle.state.specs.declared.State.{State}
 use Rattle.detector.specs.Feed.{feedOf}
 use Rattle.reader.specs.Command.{readOf}
@@ -16,10 +16,10 @@ use Rattle.play.specs.declared.input.Span.{Span}
 abbrev pub atHand : List ℕ → Span → List ℕ
 atHand window s = take (s .end - s .at) (drop (s .at) window)
 
--- a start begins anew, a chunk is fed from behind its head of six bytes; all else, a command still cut short among it, leaves the
--- state as it was
+-- a start begins anew, without a place where it is refused; a chunk is fed from behind its head of six bytes; all else, a command
+-- still cut short among it, leaves the state as it was
 abbrev pub stateBy : Tables → State → List ℕ → Command → State
-stateBy t s xs (Start bits) = startOf bits
+stateBy t s xs (Start bits) = startedOf bits .state
 stateBy t s xs (Feed last n) = feedOf t s (take n (drop 6 xs)) last .state
 stateBy t s xs Show = s
 stateBy t s xs Lend = s

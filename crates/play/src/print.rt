@@ -4,6 +4,7 @@ use libc::STDOUT_FILENO;
 use lines::show;
 use state::State;
 use state::reply::Reply;
+use state::reply::StartReply;
 
 pub(crate) enum Sink {
     Out,
@@ -24,6 +25,12 @@ impl Sink {
     pub(crate) fn with_reply(self, reply: Reply) -> Sink {
         let mut text = [0u8; 16];
         let end = show::reply(&mut text, 0, reply);
+        self.with(&text[..end])
+    }
+
+    pub(crate) fn with_start(self, reply: StartReply) -> Sink {
+        let mut text = [0u8; 16];
+        let end = show::start(&mut text, 0, reply);
         self.with(&text[..end])
     }
 

@@ -3,7 +3,7 @@ ghost use mathlib.Core.Path.{_≡_};
 ghost use Prim.Native.Nat.{_+_, _≤_};
 ghost use lib.ListN.{length, take, drop};
 ghost use Rattle.tables.specs.Tables.{tables};
-ghost use Rattle.state.specs.State.{startOf};
+ghost use Rattle.state.specs.State.{startedOf};
 ghost use Rattle.detector.specs.Feed.{feedOf};
 ghost use Rattle.play.specs.Turn.{atHand, stateAfter, Played};
 ghost use Rattle.play.specs.Within.{Within};
@@ -56,17 +56,20 @@ impl Stand {
         }
     }
 
-    fn started(self, bits: u8) -> Stand
-        requires { ⌜ self .span .at + 2 ≤ self .span .end ⌝ }
-        ensures { λ r. ⌜ (r .span .at ≡ self .span .at + 2) × (r .span .end ≡ self .span .end) ⌝ }
-        ensures { λ r. ⌜ r .state ≡ startOf bits ⌝ }
+    fn started(self, bits: u16) -> Stand
+        requires { ⌜ self .span .at + 3 ≤ self .span .end ⌝ }
+        ensures { λ r. ⌜ (r .span .at ≡ self .span .at + 3) × (r .span .end ≡ self .span .end) ⌝ }
+        ensures { λ r. ⌜ r .state ≡ startedOf bits .state ⌝ }
     {
         let span = self.span;
         let sink = self.sink;
+        let begun = state::start(bits);
+        let fresh = begun.state;
+        let reply = begun.reply;
         Stand {
-            state: state::start(bits),
-            span: span.past(2),
-            sink,
+            state: fresh,
+            span: span.past(3),
+            sink: sink.with_start(reply),
             next: Next::Command,
         }
     }
@@ -423,20 +426,28 @@ fn round(
     )
 }
 
+// The first stream has all places.
+fn every_place() -> State
+    ensures { λ r. ⌜ r ≡ startedOf 511 .state ⌝ }
+{
+    let begun = state::start(0x1FF);
+    begun.state
+}
+
 fn begun(from: i32, aloud: bool) -> Stand
     ensures { λ r. ⌜ Within 131072 (r .span) ⌝ }
-    ensures { λ r. ⌜ r .state ≡ startOf 255 ⌝ }
+    ensures { λ r. ⌜ r .state ≡ startedOf 511 .state ⌝ }
 {
     if aloud {
         return Stand {
-            state: state::start(0xFF),
+            state: every_place(),
             span: Span::empty(from),
             sink: Sink::Out,
             next: Next::Tables,
         };
     }
     Stand {
-        state: state::start(0xFF),
+        state: every_place(),
         span: Span::empty(from),
         sink: Sink::Digest(Digest::fresh()),
         next: Next::Tables,

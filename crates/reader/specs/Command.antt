@@ -1,16 +1,16 @@
 -- The command with which bytes begin.
 use mathlib.Core.Bool.{Bool, cond}
 use mathlib.Core.List.{List}
-use Prim.Native.Nat.{ℕ, _+_, _-_, _*_}
+use Prim.Native.Nat.{ℕ, _+_, _-_}
 use lib.Dec.{eqb, ltb}
 use lib.ListN.{length, getD}
 use Rattle.reader.specs.Little.{littleAt}
 use Rattle.reader.specs.declared.command.Command.{Command}
 use Rattle.reader.specs.declared.command.Command.the-variants.{Start, Feed, Show, Lend, More, Bad}
 
--- `S`: which places take part
+-- `S`: sixteen bits, which places take part
 unfoldable pub startRead : List ℕ → Command
-startRead xs = cond (ltb (length xs) 2) (More 2) (Start (getD xs 1 0))
+startRead xs = cond (ltb (length xs) 3) (More 3) (Start (littleAt 2 xs 1))
 
 -- a chunk of n bytes, of which so many are at hand
 unfoldable pub chunkOf : Bool → ℕ → ℕ → Command

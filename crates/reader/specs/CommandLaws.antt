@@ -14,7 +14,7 @@ use Rattle.reader.specs.declared.command.Command.the-variants.{Start, Fe
 
 -- the bytes of a command are among n
 abbrev pub Room : ℕ → Command → Type 0
-Room n (Start b) = 2 ≤ n
+Room n (Start b) = 3 ≤ n
 Room n (Feed last k) = 6 + k ≤ n
 Room n Show = 1 ≤ n
 Room n Lend = 1 ≤ n
@@ -24,7 +24,7 @@ Room n Bad = 0 ≤ n
 module _ (xs : List ℕ) where
   start-room : Room (length xs) (startRead xs)
   unfolding startRead
-  start-room = either (Room (length xs)) (ltb (length xs) 2) (λ e. omega arith) (λ e. ltb-false (length xs) 2 e)
+  start-room = either (Room (length xs)) (ltb (length xs) 3) (λ e. omega arith) (λ e. ltb-false (length xs) 3 e)
 
   feed-room : Room (length xs) (feedRead xs)
   unfolding feedRead chunkOf

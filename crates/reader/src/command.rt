@@ -11,7 +11,7 @@ pub const HEAD: usize = 6;
 
 pub enum Command {
     // Bit k says whether place k takes part.
-    Start(u8),
+    Start(u16),
     // As the last chunk or not; so many bytes, which follow the head.
     Feed(bool, usize),
     Show,
@@ -25,10 +25,10 @@ pub enum Command {
 fn start(bytes: &[u8]) -> Command
     ensures { λ r. ⌜ r ≡ startRead (now (bytes .entry)) ⌝ }
 {
-    if bytes.len() < 2 {
-        return Command::More(2);
+    if bytes.len() < 3 {
+        return Command::More(3);
     }
-    Command::Start(bytes[1])
+    Command::Start(number::two(bytes, 1))
 }
 
 fn feed(bytes: &[u8]) -> Command

@@ -1,4 +1,4 @@
--- The printed sheet of a state: document 01's twelve lines, each ended by a newline.
+-- The printed sheet of a state: document 01's lines, and document 02's, thirteen in all, each ended by a newline.
 use mathlib.Core.List.{List, [], _∷_, _++_}
 use Prim.Native.Nat.{ℕ, suc}
 use Rattle.names.specs.Names.{placeName}
@@ -36,7 +36,7 @@ bytesLine n = ascii "bytes " ++ decimalOf n ++ newline
 
 unfoldable pub sheetOf : State → List ℕ
 sheetOf s =
-    ascii "slate 1"
+    ascii "slate 2"
     ++ newline
     ++ bytesLine (s .front .bytes)
     ++ (ascii "nonascii " ++ decimalOf (s .front .«non_ascii_seen») ++ newline)

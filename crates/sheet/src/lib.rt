@@ -5,9 +5,9 @@ ghost use Rattle.scribe.specs.Page.{page, onto};
 ghost use Rattle.scribe.specs.Text.{newline, decimalOf};
 ghost use Rattle.sheet.specs.Sheet.{scoreText, placeLine, placeLines, leaderName, leaderLine, sheetOf};
 use names;
+use places::place::PLACES;
 use places::place::Score;
 use places::place::Slate;
-use places::slate::PLACES;
 use scribe::page;
 use state::State;
 use state::leader;
@@ -76,13 +76,13 @@ pub fn leader_line(out: &mut [u8], at: usize, leader: Leader) -> usize
     page::byte(out, b, b'\n')
 }
 
-// All twelve lines.
+// All thirteen lines.
 pub fn write(out: &mut [u8], at: usize, state: State) -> usize
     ensures { λ r. ⌜ page (now (out .exit)) r ≡ onto (page (now (out .entry)) at) (sheetOf state) ⌝ }
 {
     let front = state.front;
     let slate = state.places;
-    let a = page::word(out, at, b"slate 1\n");
+    let a = page::word(out, at, b"slate 2\n");
     let b = count_line(out, a, b"bytes ", front.bytes);
     let c = count_line(out, b, b"nonascii ", front.non_ascii_seen);
     let d = place_lines(out, c, slate);

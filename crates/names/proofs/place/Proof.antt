@@ -55,6 +55,12 @@ slice-aggregate-word-8 c = search needs
 word-requires-8 : tie.Need-word-requires-8
 word-requires-8 c κs = search needs
 
+slice-aggregate-word-9 : tie.Need-slice-aggregate-word-9
+slice-aggregate-word-9 c = search needs
+
+word-requires-9 : tie.Need-word-requires-9
+word-requires-9 c κs = search needs
+
 same-length : tie.Need-same-length
 same-length c = search needs
 
@@ -108,8 +114,16 @@ same-length-8 : tie.Need-same-length-8
 same-length-8 c = search needs
 
 returns-8 : tie.Need-returns-8
-returns-8 c = let r = c .before .before .before .before .before .match .rest in
-    c .before .before .word8 .ensures ∙ ap (onto _) (last-name _ (r .0 .0 .0 .0 .0 .0 .1) (r .0 .0 .0 .0 .0 .1) (r .0 .0 .0 .0 .1) (r .0 .0 .0 .1) (r .0 .0 .1) (r .0 .1) (r .1))
+unfolding placeName
+returns-8 c = rw (c .before .before .before .before .before .match .keys8) (c .before .before .word8 .ensures)
+
+same-length-9 : tie.Need-same-length-9
+same-length-9 c = search needs
+
+returns-9 : tie.Need-returns-9
+returns-9 c =
+    let r = c .before .before .before .before .before .match .rest in
+    c .before .before .word9 .ensures ∙ ap (onto _) (last-name _ (r .0 .0 .0 .0 .0 .0 .0 .1) (r .0 .0 .0 .0 .0 .0 .1) (r .0 .0 .0 .0 .0 .1) (r .0 .0 .0 .0 .1) (r .0 .0 .0 .1) (r .0 .0 .1) (r .0 .1) (r .1))
 
 pub place-spec : {M : Type 1} → statement M
 place-spec =
@@ -131,6 +145,8 @@ place-spec =
     word-requires-7
     slice-aggregate-word-8
     word-requires-8
+    slice-aggregate-word-9
+    word-requires-9
     same-length
     returns
     same-length-2
@@ -146,4 +162,6 @@ place-spec =
     same-length-7
     returns-7
     same-length-8
-    returns-8)
+    returns-8
+    same-length-9
+    returns-9)

@@ -52,6 +52,12 @@ enum-known-machine-8 c = search needs
 arabic-french-requires : tie.Need-arabic-french-requires
 arabic-french-requires c κs = search needs
 
+enum-known-machine-9 : tie.Need-enum-known-machine-9
+enum-known-machine-9 c = search needs
+
+shift-jis-requires : tie.Need-shift-jis-requires
+shift-jis-requires c κs = search needs
+
 same-length : tie.Need-same-length
 same-length c = search needs
 
@@ -108,6 +114,13 @@ returns-8 : tie.Need-returns-8
 unfolding recordText
 returns-8 c = rw (c .before .before .before .before .before .machine8 .given .1) (c .before .before .arabic-french .ensures)
 
+same-length-9 : tie.Need-same-length-9
+same-length-9 c = search needs
+
+returns-9 : tie.Need-returns-9
+unfolding recordText
+returns-9 c = rw (c .before .before .before .before .before .machine9 .given .1) (c .before .before .shift-jis .ensures)
+
 pub machine-fields-spec : {M : Type 1} → statement M
 machine-fields-spec =
     tie.close
@@ -128,6 +141,8 @@ machine-fields-spec =
     visual-requires
     enum-known-machine-8
     arabic-french-requires
+    enum-known-machine-9
+    shift-jis-requires
     same-length
     returns
     same-length-2
@@ -143,4 +158,6 @@ machine-fields-spec =
     same-length-7
     returns-7
     same-length-8
-    returns-8)
+    returns-8
+    same-length-9
+    returns-9)

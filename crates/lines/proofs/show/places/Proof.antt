@@ -11,10 +11,10 @@ use Rattle.lines.proofs.show.places.Statement.{statement}
 use Rattle.lines.proofs.show.places.Tie as tie
 
 abbrev Inv-loop : tie.InvT-loop
-Inv-loop out₀ at slate to₀ k₀ out to k = (k ≤ 8) × ((length slate ≡ 8) × ((length out ≡ length out₀) × (onto (page out to) (placesText (drop k slate)) ≡ onto (page out₀ at) (placesText slate))))
+Inv-loop out₀ at slate to₀ k₀ out to k = (k ≤ 9) × ((length slate ≡ 9) × ((length out ≡ length out₀) × (onto (page out to) (placesText (drop k slate)) ≡ onto (page out₀ at) (placesText slate))))
 
 abbrev μ-loop : tie.MeasureT-loop
-μ-loop out₀ at slate to₀ k₀ out to k = 8 - k
+μ-loop out₀ at slate to₀ k₀ out to k = 9 - k
 
 loop-holds : tie.Need-loop-holds Inv-loop μ-loop
 loop-holds c = (omega arith, (search needs, (refl, refl)))

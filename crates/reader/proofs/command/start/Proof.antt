@@ -9,12 +9,12 @@ returns : tie.Need-returns
 unfolding startRead
 returns c = simp (lt-ltb _ _ (c .if1 .taken))
 
-shared-slice-read-t5 : tie.Need-shared-slice-read-t5
-shared-slice-read-t5 c = search needs
+two-requires : tie.Need-two-requires
+two-requires c κs = search needs
 
 returns-2 : tie.Need-returns-2
 unfolding startRead
-returns-2 c = simp (le-ltb _ _ (c .before .if1 .left))
+returns-2 c = simp (le-ltb _ _ (c .before .if1 .left), c .two .ensures)
 
 pub start-spec : {M : Type 1} → statement M
-start-spec = tie.close (tie.spec returns shared-slice-read-t5 returns-2)
+start-spec = tie.close (tie.spec returns two-requires returns-2)
