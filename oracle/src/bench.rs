@@ -2,7 +2,7 @@
 
 use crate::lent;
 use crate::make::tables;
-use crate::order::fresh;
+use crate::order::{fresh, PLACES};
 use crate::stand::{memchr, Encoding};
 use crate::stream::Stream;
 use crate::{contains_upper_case_period_or_non_ascii, count_non_ascii};
@@ -19,7 +19,7 @@ pub fn run(args: &[&str], bytes: &[u8]) -> Option<String> {
             Some((found as u8).to_string())
         }
         ["place", place, chunk, tables @ ..] => {
-            let place = place.parse().ok().filter(|&place| place < 8)?;
+            let place = place.parse().ok().filter(|&place| place < PLACES)?;
             load(tables)?;
             Some(one_place(place, bytes, chunk.parse().ok()?))
         }
@@ -61,7 +61,7 @@ fn one_place(place: u8, bytes: &[u8], chunk: usize) -> String {
     score(candidate.score)
 }
 
-fn whole(bits: u8, bytes: &[u8], chunk: usize) -> String {
+fn whole(bits: u16, bytes: &[u8], chunk: usize) -> String {
     let mut stream = Stream::start(bits);
     for part in bytes.chunks(chunk.max(1)) {
         stream.feed(part, false);

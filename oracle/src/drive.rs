@@ -3,7 +3,7 @@
 use crate::alone::{self, Alone};
 use crate::digest::Digest;
 use crate::input::Input;
-use crate::order::in_order;
+use crate::order::{in_order, PLACES};
 use crate::record::{Record, SIZE};
 use crate::sheet;
 use std::io::{Error, Read, Result, Write};
@@ -86,7 +86,7 @@ fn write(out: &mut impl Write, form: &Form, place: u8, records: &[Record]) -> Re
 
 /// A place and a starting record in order.
 fn start<R: Read>(input: &mut Input<R>) -> Option<(u8, Record)> {
-    let place = input.byte().filter(|&place| place < 8)?;
+    let place = input.byte().filter(|&place| place < PLACES)?;
     let given: [u8; SIZE] = input.bytes(SIZE)?.try_into().ok()?;
     let start = Record::from_bytes(&given);
     (start.to_bytes() == given && in_order(place, &start)).then_some((place, start))

@@ -9,7 +9,7 @@ pub const MARKS: usize = 128;
 pub const PAIRS: usize = 16_384;
 pub const BIG5_ENTRIES: usize = 19_782;
 pub const EUC_KR_ENTRIES: usize = 23_940;
-pub const JIS_ENTRIES: usize = 8_836;
+pub const JIS_ENTRIES: usize = 11_280;
 pub const EXTRAS: usize = 11_172;
 pub const WEIGHTS: usize = 17;
 

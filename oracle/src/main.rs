@@ -9,6 +9,7 @@ mod input;
 mod leaves;
 mod lent;
 mod make;
+mod ninth;
 mod order;
 mod patch;
 mod random;
@@ -23,11 +24,13 @@ mod stream;
 mod trace;
 
 use lent::{weight, SingleByteData};
+use ninth::ShiftJisCandidate;
 use stand::{cjk_extra_score, data, memchr, Decoder, DecoderResult, Encoding};
 use stand::{BIG5, EUC_KR, ISO_2022_JP, UTF_8};
 
 // The given items as `cut` wrote them. They stand at the root so that the
-// modules above can see their private fields.
+// modules above can see their private fields. Of the ninth place they have the
+// name alone.
 include!(env!("GIVEN"));
 
 use std::io::{BufReader, BufWriter, Error, Read, Write};

@@ -9,10 +9,13 @@ mod malformed;
 mod named;
 mod reasons;
 mod records;
+mod shift_jis;
+mod starts;
 mod streams;
 pub mod tables;
 pub mod text;
 
+use crate::order::PLACES;
 use crate::random::Random;
 use std::io::{Error, Result, Write};
 
@@ -31,7 +34,8 @@ pub fn run(args: &[&str], out: &mut impl Write) -> Result<()> {
         }
         ["drive", place, kind, seed, count] => {
             let (place, seed) = (number(Some(place))?, number(Some(seed))?);
-            place < 8 && drive::run(place as u8, kind, seed, number(Some(count))?, out)?
+            place < u64::from(PLACES)
+                && drive::run(place as u8, kind, seed, number(Some(count))?, out)?
         }
         ["text", name, seed, length] => match text::named(name) {
             Some(kind) => {

@@ -4,6 +4,9 @@
 use crate::reason::Reason;
 use crate::record::Record;
 
+/// How many places there are, and that of Shift_JIS, which is the last.
+pub const PLACES: u8 = 9;
+pub const SHIFT_JIS: u8 = 8;
 /// The bytes of the longest stream, and so the bound on every count.
 pub const LIMIT: u64 = 268_435_456;
 /// What one byte can add to a score, and the bound on a score held.
@@ -25,7 +28,7 @@ pub const UTF_8: [[u8; 3]; 8] = [
 pub fn fresh(place: u8) -> Record {
     let fields = match place {
         0 => Record { b: 0x80, c: 0xBF, ..Record::default() },
-        1 => Record::default(),
+        1 | SHIFT_JIS => Record::default(),
         2 => Record { d: 3, ..Record::default() },
         3 => Record { d: 2, ..Record::default() },
         _ => Record { b: 1, ..Record::default() },
@@ -65,7 +68,8 @@ fn kept(place: u8, r: &Record) -> bool {
         4 => single,
         5 => single && counted,
         6 => single && counted && r.c <= 1,
-        _ => single && r.c <= 3,
+        7 => single && r.c <= 3,
+        _ => matches!(r.a, 0 | 0x81..=0x9F | 0xE0..=0xFC),
     }
 }
 
@@ -88,6 +92,7 @@ fn stray(place: u8, r: &Record) -> bool {
         4 => r.c != 0 || r.d != 0 || r.e != 0 || r.z != 0,
         5 => r.c != 0 || r.d != 0 || r.e != 0,
         6 => r.d != 0 || r.e != 0,
-        _ => r.d != 0 || r.e != 0 || r.z != 0,
+        7 => r.d != 0 || r.e != 0 || r.z != 0,
+        _ => r.b != 0 || r.c != 0 || r.d != 0 || r.e != 0 || counts || r.z != 0,
     }
 }

@@ -1,6 +1,7 @@
 //! Why a place has no score. The Rust says only that it has none; this is
 //! worked out from the record that the place had before the byte.
 
+use crate::order::SHIFT_JIS;
 use crate::record::Record;
 
 /// The numbers are those of a record's second byte.
@@ -42,8 +43,8 @@ impl Reason {
     /// Whether a place of this kind can have it.
     pub fn fits(self, place: u8) -> bool {
         match self {
-            Reason::Class255 => place >= 4,
-            Reason::BadByte | Reason::CutAtClose => place < 4,
+            Reason::Class255 => single_byte(place),
+            Reason::BadByte | Reason::CutAtClose => !single_byte(place),
             Reason::BadSecondByte => matches!(place, 2 | 3),
             Reason::BrokenEscape => place == 1,
             Reason::NotInSlate => true,
@@ -53,7 +54,7 @@ impl Reason {
     /// Of a byte that fails after this record.
     pub fn of_byte(place: u8, before: &Record) -> Reason {
         match place {
-            0 => Reason::BadByte,
+            0 | SHIFT_JIS => Reason::BadByte,
             1 if in_escape(before) => Reason::BrokenEscape,
             1 => Reason::BadByte,
             2 | 3 if lead_waits(before) => Reason::BadSecondByte,
@@ -61,6 +62,10 @@ impl Reason {
             _ => Reason::Class255,
         }
     }
+}
+
+fn single_byte(place: u8) -> bool {
+    matches!(place, 4..=7)
 }
 
 /// ISO-2022-JP: the escape byte has come, and perhaps the one after it. A byte
@@ -77,8 +82,8 @@ fn lead_waits(before: &Record) -> bool {
 /// The record of a place that fails at the close of so many bytes: for the
 /// single-byte places by the space, which is one byte more.
 pub fn at_close(place: u8, bytes: u64) -> Record {
-    match place {
-        0..=3 => Record::none(Reason::CutAtClose, bytes),
-        _ => Record::none(Reason::Class255, bytes + 1),
+    match single_byte(place) {
+        true => Record::none(Reason::Class255, bytes + 1),
+        false => Record::none(Reason::CutAtClose, bytes),
     }
 }

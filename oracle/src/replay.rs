@@ -3,15 +3,19 @@
 use crate::digest;
 use crate::input::Input;
 use crate::lent;
+use crate::stream::{refused, EVERY};
 use crate::trace::Trace;
 use std::io::{Read, Write};
+
+/// The reply's number of a start that is refused.
+const REFUSED: u8 = 12;
 
 pub fn run(input: impl Read, out: &mut impl Write) -> std::io::Result<()> {
     let mut input = Input(input);
     if input.tables().is_none() {
         return writeln!(out, "bad input");
     }
-    let mut stream = Trace::start(0xFF);
+    let mut stream = Trace::start(EVERY);
     while let Some(command) = input.byte() {
         match answer(command, &mut input, &mut stream) {
             Some(text) => out.write_all(text.as_bytes())?,
@@ -47,7 +51,7 @@ pub fn count(input: impl Read, out: &mut impl Write) -> std::io::Result<()> {
     let (mut streams, mut chunks, mut bytes) = (0, 0, 0);
     while let Some(command) = input.byte() {
         let passed = match command {
-            b'S' => input.bytes(1).map(|_| streams += 1),
+            b'S' => input.bytes(2).map(|_| streams += 1),
             b'F' => input.bytes(1).and_then(|_| input.chunk()).map(|chunk| {
                 chunks += 1;
                 bytes += chunk.len();
@@ -65,7 +69,11 @@ pub fn count(input: impl Read, out: &mut impl Write) -> std::io::Result<()> {
 /// What one command prints; `None` if it is malformed.
 fn answer<R: Read>(command: u8, input: &mut Input<R>, stream: &mut Trace) -> Option<String> {
     match command {
-        b'S' => *stream = Trace::start(input.byte()?),
+        b'S' => {
+            let bits = u16::from_le_bytes(input.bytes(2)?.try_into().ok()?);
+            *stream = Trace::start(bits);
+            return Some(if refused(bits) { format!("start {REFUSED}\n") } else { String::new() });
+        }
         b'F' => {
             let last = input.flag()?;
             let (number, flag) = stream.feed(&input.chunk()?, last);

@@ -4,23 +4,28 @@
 use crate::alone::{self, Alone};
 use crate::lent;
 use crate::make::{tables, text};
-use crate::order::{fresh, in_order};
+use crate::order::{fresh, in_order, PLACES};
 use crate::random::Random;
 use crate::reach::Front;
 use crate::record::Record;
 use crate::stand::DecoderResult::{InputEmpty, Malformed, OutputFull};
-use crate::stand::{Decoder, DecoderResult, Encoding, BIG5, EUC_KR, ISO_2022_JP, UTF_8};
+use crate::stand::{Decoder, DecoderResult, Encoding, BIG5, EUC_KR, ISO_2022_JP, SHIFT_JIS, UTF_8};
+use crate::stream::EVERY;
 use crate::trace::Trace;
 use std::io::{Error, Result, Write};
 
 /// Prints one line a check; fails at the first that does not hold.
 pub fn run(folder: &str, out: &mut impl Write) -> Result<()> {
     lent::load(&tables::standard(folder)?.bytes);
-    let checks: [(&str, fn() -> bool); 10] = [
+    let checks: [(&str, fn() -> bool); 14] = [
         ("big5: 18590 pairs and 4 specials", || mapped(&BIG5) == (18_594, 1_713 + 4)),
         ("euc-kr: 17048 pairs", || mapped(&EUC_KR) == (17_048, 0)),
         ("iso-2022-jp: 7336 pairs", || japanese_pairs() == 7_336),
         ("iso-2022-jp: escapes", japanese_escapes),
+        ("shift_jis: 7724 pairs and 1880 of private use", || shift_jis_pairs() == (7_724, 1_880)),
+        ("shift_jis: single bytes", shift_jis_single),
+        ("shift_jis: code points", shift_jis_points),
+        ("shift_jis: as the Standard's steps, two bytes", shift_jis_steps),
         ("utf-8: as std, up to three bytes", || utf_8_short().all(|bytes| utf_8_agrees(&bytes))),
         ("utf-8: as std, four bytes", || utf_8_long().all(|bytes| utf_8_agrees(&bytes))),
         ("pairs: what is read", what_is_read),
@@ -103,6 +108,68 @@ fn japanese_escapes() -> bool {
         b"\x1B(B\x1B(B",
     ];
     good.into_iter().all(japanese) && !bad.into_iter().any(japanese)
+}
+
+/// How many pairs the index maps, and how many are of private use.
+fn shift_jis_pairs() -> (usize, usize) {
+    let (mut mapped, mut private) = (0, 0);
+    for pair in (0x80..=0xFF).flat_map(|lead| (0..=255).map(move |second| [lead, second])) {
+        let (result, _, units) = decode(&SHIFT_JIS, &pair, true);
+        match (result, units.as_slice()) {
+            (InputEmpty, [0xE000..=0xE757]) => private += 1,
+            (InputEmpty, [_]) => mapped += 1,
+            _ => {}
+        }
+    }
+    (mapped, private)
+}
+
+/// 00 to 80 and half-width katakana stand alone; leads are open; four are bad.
+fn shift_jis_single() -> bool {
+    (0..=255u8).all(|byte| {
+        let (open, _, units) = decode(&SHIFT_JIS, &[byte], false);
+        let closed = decode(&SHIFT_JIS, &[byte], true).0;
+        match byte {
+            0..=0x80 => units == [u16::from(byte)],
+            0xA1..=0xDF => units == [0xFF00 + u16::from(byte) - 0x40],
+            0xA0 | 0xFD..=0xFF => matches!(open, Malformed(1, _)),
+            _ => matches!((open, closed), (InputEmpty, Malformed(_, _))) && units.is_empty(),
+        }
+    })
+}
+
+/// Some pairs and what they stand for, as is known of Japanese text.
+fn shift_jis_points() -> bool {
+    let text = b"\x93\xFA\x96\x7B \x82\xA0\x83A\xB1\x81\x42\x87\x40\xF0\x40\xF9\xFC\xFC\x4B";
+    let points =
+        "\u{65E5}\u{672C} \u{3042}\u{30A2}\u{FF71}\u{3002}\u{2460}\u{E000}\u{E757}\u{9ED1}";
+    let (result, read, units) = decode(&SHIFT_JIS, text, true);
+    matches!(result, InputEmpty)
+        && read == text.len()
+        && units.iter().copied().eq(points.encode_utf16())
+}
+
+/// Two bytes live by the Standard's words, which are said once more here, in
+/// one expression, over the index.
+fn shift_jis_steps() -> bool {
+    let maps = |lead: u32, byte: u32| {
+        let pointer = (lead - if lead < 0xA0 { 0x81 } else { 0xC1 }) * 188 + byte
+            - if byte < 0x7F { 0x40 } else { 0x41 };
+        let private = (8836..10716).contains(&pointer);
+        private || lent::JIS[pointer as usize].load(std::sync::atomic::Ordering::Relaxed) != 0
+    };
+    let single = |byte: u32| byte <= 0x80 || (0xA1..0xE0).contains(&byte);
+    let lead = |byte: u32| (0x81..0xA0).contains(&byte) || (0xE0..0xFD).contains(&byte);
+    let trail = |byte: u32| (0x40..0xFD).contains(&byte) && byte != 0x7F;
+    (0..0x1_0000u32).all(|both| {
+        let (first, second) = (both >> 8, both & 0xFF);
+        let expected = match lead(first) {
+            true => trail(second) && maps(first, second),
+            false => single(first) && single(second),
+        };
+        let told = decode(&SHIFT_JIS, &[first as u8, second as u8], true).0;
+        expected == matches!(told, InputEmpty)
+    })
 }
 
 /// At its end, at each shorter length and fed byte by byte, the stand-in says
@@ -190,7 +257,7 @@ fn output_full() -> bool {
 fn records_carry_all() -> bool {
     let mut random = Random::new(1);
     (0..16_000u32).all(|number| {
-        let place = (number % 8) as u8;
+        let place = (number % u32::from(PLACES)) as u8;
         let kind = *random.pick(&text::ALL);
         let mut bytes = text::text(&mut random, kind, 24);
         if bytes[0] != 0x1B {
@@ -230,7 +297,7 @@ fn reached_as_fed() -> bool {
 
 /// The same of one stream, which is cut anywhere and closed.
 fn cut_as_fed(random: &mut Random, bytes: &[u8]) -> bool {
-    let (mut trace, mut front) = (Trace::start(0xFF), Front::new());
+    let (mut trace, mut front) = (Trace::start(EVERY), Front::new());
     let mut rest = bytes;
     while !rest.is_empty() {
         let (chunk, later) = rest.split_at(1 + random.below(rest.len().min(6) as u64) as usize);

@@ -3,8 +3,17 @@
 use crate::reason::Reason;
 use crate::record::Record;
 
-pub const NAMES: [&str; 8] =
-    ["utf-8", "iso-2022-jp", "euc-kr", "big5", "caseless", "logical", "visual", "arabic-french"];
+pub const NAMES: [&str; 9] = [
+    "utf-8",
+    "iso-2022-jp",
+    "euc-kr",
+    "big5",
+    "caseless",
+    "logical",
+    "visual",
+    "arabic-french",
+    "shift_jis",
+];
 
 const STATES: [&str; 7] = ["ascii", "roman", "katakana", "lead", "trail", "escape-start", "escape"];
 const KOREAN: [&str; 4] = ["letter", "hangul", "hanja", "other"];
@@ -41,6 +50,7 @@ fn fields(place: u8, record: &Record) -> String {
         4 => format!("prev={a} ascii={b} word={x} longest={y}"),
         5 => format!("prev={a} ascii={b} punct={z} word={x} longest={y}"),
         6 => format!("prev={a} ascii={b} prevpunct={c} punct={z} word={x} longest={y}"),
-        _ => format!("prev={a} ascii={b} case={} word={x} longest={y}", name(&CASES, c)),
+        7 => format!("prev={a} ascii={b} case={} word={x} longest={y}", name(&CASES, c)),
+        _ => format!("lead={a:02x}"),
     }
 }

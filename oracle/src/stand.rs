@@ -5,10 +5,12 @@ pub mod big5;
 pub mod euc_kr;
 pub mod iso_2022_jp;
 pub mod pairs;
+pub mod shift_jis;
 pub mod utf_8;
 
 use iso_2022_jp::Iso2022Jp;
 use pairs::Pairs;
+use shift_jis::ShiftJis;
 use utf_8::Utf8;
 
 pub enum DecoderResult {
@@ -27,6 +29,7 @@ pub enum Decoder {
     Iso2022Jp(Iso2022Jp),
     Big5(Pairs),
     EucKr(Pairs),
+    ShiftJis(ShiftJis),
 }
 
 /// Never inlined, for they stand for calls into another crate.
@@ -56,6 +59,7 @@ impl Decoder {
             Decoder::Iso2022Jp(decoder) => decoder.decode(src, dst, last),
             Decoder::Big5(decoder) => decoder.decode(big5::look_up, src, dst, last),
             Decoder::EucKr(decoder) => decoder.decode(euc_kr::look_up, src, dst, last),
+            Decoder::ShiftJis(decoder) => decoder.decode(src, dst, last),
         }
     }
 }
@@ -65,12 +69,14 @@ pub enum Encoding {
     Iso2022Jp,
     Big5,
     EucKr,
+    ShiftJis,
 }
 
 pub static UTF_8: Encoding = Encoding::Utf8;
 pub static ISO_2022_JP: Encoding = Encoding::Iso2022Jp;
 pub static BIG5: Encoding = Encoding::Big5;
 pub static EUC_KR: Encoding = Encoding::EucKr;
+pub static SHIFT_JIS: Encoding = Encoding::ShiftJis;
 
 impl Encoding {
     pub fn new_decoder_without_bom_handling(&self) -> Decoder {
@@ -79,6 +85,7 @@ impl Encoding {
             Encoding::Iso2022Jp => Decoder::Iso2022Jp(Iso2022Jp::new()),
             Encoding::Big5 => Decoder::Big5(Pairs { lead: 0 }),
             Encoding::EucKr => Decoder::EucKr(Pairs { lead: 0 }),
+            Encoding::ShiftJis => Decoder::ShiftJis(ShiftJis { lead: 0 }),
         }
     }
 

@@ -2,9 +2,12 @@
 //! count of bytes, replies instead of a stop of the program, the leader).
 
 use crate::lent::SINGLE;
-use crate::order::LIMIT;
+use crate::order::{LIMIT, PLACES};
 use crate::sheet;
-use crate::{BeforeNonAscii, Candidate, EncodingDetector, Iso2022JpDetection};
+use crate::{
+    BeforeNonAscii, Candidate, EncodingDetector, InnerCandidate, Iso2022JpDetection,
+    ShiftJisCandidate,
+};
 
 /// The places of Hebrew in logical and in visual order.
 const LOGICAL: usize = 5;
@@ -15,10 +18,23 @@ pub struct Stream {
     pub bytes: u64,
 }
 
+/// All places take part.
+pub const EVERY: u16 = (1 << PLACES) - 1;
+
+/// Whether a start asks for a place that there is not.
+pub fn refused(bits: u16) -> bool {
+    bits > EVERY
+}
+
+fn new_shift_jis() -> Candidate {
+    Candidate { inner: InnerCandidate::Shift(ShiftJisCandidate::new()), score: Some(0) }
+}
+
 impl Stream {
-    /// Bit k says whether place k takes part.
-    pub fn start(bits: u8) -> Self {
-        let taken = |place: u8| bits >> place & 1 == 1;
+    /// Bit k says whether place k takes part; no place does if a bit above
+    /// the last place's is set.
+    pub fn start(bits: u16) -> Self {
+        let taken = |place: u8| bits >> place & 1 == 1 && !refused(bits);
         let japanese = match taken(1) {
             true => Iso2022JpDetection::Allow,
             false => Iso2022JpDetection::Deny,
@@ -32,8 +48,9 @@ impl Stream {
             Candidate::new_logical(&SINGLE[1]),
             Candidate::new_visual(&SINGLE[2]),
             Candidate::new_arabic_french(&SINGLE[3]),
+            new_shift_jis(),
         ];
-        for place in (0..8).filter(|&place| !taken(place)) {
+        for place in (0..PLACES).filter(|&place| !taken(place)) {
             candidates[usize::from(place)].score = None;
         }
         let detector = EncodingDetector {

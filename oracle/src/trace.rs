@@ -4,6 +4,7 @@
 //! from the record before the chunk and fed byte by byte.
 
 use crate::alone;
+use crate::order::PLACES;
 use crate::reach::{Front, Reached};
 use crate::reason::Reason;
 use crate::record::Record;
@@ -14,12 +15,12 @@ pub struct Trace {
     stream: Stream,
     front: Front,
     /// What the places hold.
-    pub places: [Record; 8],
+    pub places: [Record; PLACES as usize],
 }
 
 impl Trace {
-    /// Bit k says whether place k takes part.
-    pub fn start(bits: u8) -> Self {
+    /// As `Stream::start`.
+    pub fn start(bits: u16) -> Self {
         let stream = Stream::start(bits);
         let record = |place: usize| {
             let none = Record::none(Reason::NotInSlate, 0);
@@ -66,7 +67,7 @@ impl Trace {
         }
     }
 
-    /// The ten lines of the replay format's `Q`.
+    /// The eleven lines of the replay format's `Q`.
     pub fn show(&self) -> String {
         let mut text = self.front_line();
         for (place, record) in self.places.iter().enumerate() {

@@ -102,12 +102,16 @@ fn main() {
     play_file(b"mild", b"cases");
     play_file(b"random", b"cases");
     play_file(b"demo", b"starts");
+    play_file(b"standard", b"starts");
+    play_file(b"standard", b"japanese");
+    play_file(b"mild", b"japanese");
+    play_file(b"random", b"japanese");
     play_file(b"demo", b"reasons");
     play_file(b"standard", b"reasons");
     play_file(b"ascii255", b"reasons");
     play_cut(b"demo", 0);
     play_cut(b"demo", 1);
-    play_cut(b"demo", 365_251);
-    play_cut(b"demo", 365_252);
+    play_cut(b"demo", 375_027);
+    play_cut(b"demo", 375_028);
     play_each(b"demo", b"malformed");
 }

@@ -23,8 +23,10 @@ fn main() {
     show(b"leader-utf-8");
     show(b"leader-euc-kr");
     show(b"leader-big5");
+    show(b"leader-shift_jis");
     show(b"korean");
     show(b"chinese");
+    show(b"japanese");
     show(b"hebrew");
     show(b"arabic");
 }

@@ -102,7 +102,7 @@ fn open() -> i32 {
     os::open_read(&path[..n])
 }
 
-fn run_over(bits: u8, size: usize, text: &[u8], from: i32) -> bool {
+fn run_over(bits: u16, size: usize, text: &[u8], from: i32) -> bool {
     let mut classes4 = [0u8; CLASSES];
     let mut marks4 = [0u8; MARKS];
     let mut pairs4 = [0i16; PAIRS];
@@ -131,7 +131,8 @@ fn run_over(bits: u8, size: usize, text: &[u8], from: i32) -> bool {
     if !lent::weights(from, &mut weights) {
         return false;
     }
-    let start = state::start(bits);
+    let begun = state::start(bits);
+    let start = begun.state;
     if size == 0 {
         print(over(
             start,
@@ -182,10 +183,10 @@ fn run_over(bits: u8, size: usize, text: &[u8], from: i32) -> bool {
     true
 }
 
-// The arguments: the places that take part, as a number of eight bits, the size of a chunk (0 for all of the text), a file of
+// The arguments: the places that take part, as a number of nine bits, the size of a chunk (0 for all of the text), a file of
 // lent data.
 pub(crate) fn run(text: &[u8]) {
-    let bits = (arguments::number(2) % 256) as u8;
+    let bits = (arguments::number(2) % 512) as u16;
     if !run_over(bits, arguments::number(3), text, open()) {
         io::write_all(
             STDERR_FILENO,

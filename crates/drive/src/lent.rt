@@ -32,7 +32,7 @@ const SINGLES: usize = 4 * SINGLE;
 const LENT: usize = SINGLES + 4 * INDEXES + 2 * EXTRAS + 4 * WEIGHTS;
 
 fn single(bytes: &[u8], k: usize, classes: &mut Classes, marks: &mut Marks, pairs: &mut Pairs)
-    requires { ⌜ (k < 4) × (length (now bytes) ≡ 365252) ⌝ }
+    requires { ⌜ (k < 4) × (length (now bytes) ≡ 375028) ⌝ }
 {
     let at = SINGLE * k;
     fill::octets(&bytes[at..], &mut classes[k]);
@@ -47,7 +47,7 @@ fn rest(
     extras: &mut [i16; EXTRAS],
     weights: &mut [i32; WEIGHTS],
 )
-    requires { ⌜ length (now bytes) ≡ 365252 ⌝ }
+    requires { ⌜ length (now bytes) ≡ 375028 ⌝ }
 {
     fill::words(&bytes[SINGLES..], indexes);
     fill::halves(&bytes[SINGLES + 4 * INDEXES..], extras);

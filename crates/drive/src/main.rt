@@ -215,7 +215,7 @@ fn case(
         return false;
     }
     let place = record::wide(head[0]);
-    if 7 < place {
+    if 8 < place {
         return false;
     }
     let p = record::start(&head);

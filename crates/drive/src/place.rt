@@ -76,7 +76,8 @@ fn after_part(
         4 => machine.run_caseless(part, classes, marks, pairs, weights),
         5 => machine.run_logical(part, classes, marks, pairs, weights),
         6 => machine.run_visual(part, classes, marks, pairs, weights),
-        _ => machine.run_arabic_french(part, classes, marks, pairs, weights),
+        7 => machine.run_arabic_french(part, classes, marks, pairs, weights),
+        _ => machine.run_shift_jis(part, index),
     }
 }
 
@@ -99,7 +100,8 @@ fn after_byte(
         4 => machine.run_caseless(&one, classes, marks, pairs, weights),
         5 => machine.run_logical(&one, classes, marks, pairs, weights),
         6 => machine.run_visual(&one, classes, marks, pairs, weights),
-        _ => machine.run_arabic_french(&one, classes, marks, pairs, weights),
+        7 => machine.run_arabic_french(&one, classes, marks, pairs, weights),
+        _ => machine.run_shift_jis(&one, index),
     }
 }
 

@@ -17,6 +17,7 @@ use pairs::Held;
 use places::place::Place;
 use places::place::Score;
 use reader::number;
+use shift_jis::ShiftJis;
 use utf8::Utf8;
 use visual::Visual;
 
@@ -148,6 +149,9 @@ fn machine_of(f: &[u8; 41]) -> Machine {
     let z = number::eight(f, 33);
     if f[0] < 4 {
         return decoder_of(f, x, z);
+    }
+    if f[0] == 8 {
+        return Machine::ShiftJis(ShiftJis { lead: f[2] });
     }
     single_of(f, x, y, z)
 }
@@ -318,6 +322,7 @@ fn fields_of(machine: Machine) -> Fields {
         Machine::Logical(m) => of_logical(m),
         Machine::Visual(m) => of_visual(m),
         Machine::ArabicFrench(m) => of_arabic_french(m),
+        Machine::ShiftJis(m) => Fields(m.lead, 0, 0, 0, 0, 0, 0, 0),
     }
 }
 

@@ -6,6 +6,7 @@ mod decoders;
 ghost use mathlib.Core.Path.{_≡_};
 ghost use Prim.Native.Nat.{_+_, _^_, _<_, _≤_};
 ghost use lib.ListN.{length};
+use iso2022jp::Iso2022Jp;
 use libc::STDOUT_FILENO;
 use reader::fill;
 
@@ -120,12 +121,12 @@ fn euckr() {
     decoders::euckr(&index[0..n]);
 }
 
-// The JIS X 0208 index, and that part of it which ISO-2022-JP can point at.
+// The JIS X 0208 index, and that part of it which ISO-2022-JP reads.
 fn jis0208() {
     let mut index = [0u32; 24576];
     let n = read(b"index-jis0208.u32le", &mut index);
     show(b"jis0208", &index[0..n]);
-    show(b"jis0208", &index[0..fewer(n, lengths::JIS)]);
+    show(b"jis0208", &index[0..fewer(n, Iso2022Jp::FIRST)]);
 }
 
 fn main() {

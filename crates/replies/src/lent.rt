@@ -2,6 +2,7 @@
 // of table is here once, with room for one entry more; the three indexes are zero and share one array.
 ghost use Prim.Native.Nat.{_<_, _≤_};
 use crate::rows;
+use crate::rows::FEED;
 use crate::rows::Rows;
 use detector::feed;
 use detector::feed::Fed;
@@ -47,10 +48,10 @@ fn length(rows: &Rows, k: u64, exact: u64, most: usize) -> usize
     requires { ⌜ (0 < exact) × (exact < 100000) ⌝ }
     ensures { λ r. ⌜ r ≤ most ⌝ }
 {
-    if rows::number(rows, 9, b's', 0) == k {
+    if rows::number(rows, FEED, b's', 0) == k {
         return at_most(exact - 1, most);
     }
-    if rows::number(rows, 9, b'g', 0) == k {
+    if rows::number(rows, FEED, b'g', 0) == k {
         return at_most(exact + 1, most);
     }
     at_most(exact, most)
@@ -73,7 +74,7 @@ fn lend_singles(
     feed::feed(
         state,
         chunk,
-        rows::flag(rows, 9, b'l', 0),
+        rows::flag(rows, FEED, b'l', 0),
         &classes[0..length(rows, 1, CLASSES as u64, classes.len())],
         &marks[0..length(rows, 2, MARKS as u64, marks.len())],
         &pairs[0..length(rows, 3, PAIRS as u64, pairs.len())],
@@ -148,8 +149,8 @@ fn over(state: State, rows: &Rows, chunk: &[u8]) -> Fed {
 }
 
 fn part(state: State, rows: &Rows, bytes: &[u8]) -> Fed {
-    let end = at_most(rows::number(rows, 9, b'b', 4), bytes.len());
-    let start = at_most(rows::number(rows, 9, b'a', 0), end);
+    let end = at_most(rows::number(rows, FEED, b'b', 4), bytes.len());
+    let start = at_most(rows::number(rows, FEED, b'a', 0), end);
     over(state, rows, &bytes[start..end])
 }
 

@@ -16,6 +16,15 @@ pub(crate) struct Pen {
     minus: bool,
 }
 
+// A row by its digit or letter.
+fn row(c: u8) -> usize {
+    match c {
+        b'F' => rows::FRONT,
+        b'C' => rows::FEED,
+        _ => (c % 16) as usize,
+    }
+}
+
 fn digit(c: u8) -> u64
     ensures { λ r. ⌜ r < 25 ⌝ }
 {
@@ -70,7 +79,7 @@ impl Pen {
 
     fn in_place(mut self, c: u8) -> Pen {
         if c < b'a' {
-            self.row = (c % 16) as usize;
+            self.row = row(c);
             return self;
         }
         self.letter = c;

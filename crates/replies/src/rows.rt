@@ -1,8 +1,8 @@
-// A state and how it is fed, as numbers in ten rows, one for each letter. Rows 0 to 7 are the places: k the machine's kind,
+// A state and how it is fed, as numbers in eleven rows, one for each letter. Rows 0 to 8 are the places: k the machine's kind,
 // s the score, or n 1 where there is none, and then r the reason and p the place of the byte; the record's fields and the
-// reasons by the letters and numbers of oracle/README.md, a to e and x to z. Row 8 is the front: a and b the bytes of the
+// reasons by the letters and numbers of oracle/README.md, a to e and x to z. Row F is the front: a and b the bytes of the
 // context and c its length, e the escape flag, y the non-ASCII count, x the bytes accepted, d those of them from the end of
-// the head on, z whether it is closed. Row 9 is the feed: a and b where the chunk begins and ends among the bytes of `lent`,
+// the head on, z whether it is closed. Row C is the feed: a and b where the chunk begins and ends among the bytes of `lent`,
 // l whether it is the last, s which of the seventeen slices is one short and g which is one long, from 1 on.
 // A number that is not set is that of a stream of ten bytes, one of them non-ASCII, with every place fresh at score 0, to
 // which four bytes are fed, not the last, over slices of the right lengths; but d is 0, which is in order in every stream. A
@@ -24,22 +24,31 @@ use logical::Logical;
 use pairs::Held;
 use places::place::Place;
 use places::place::Score;
+use shift_jis::ShiftJis;
 use state::State;
 use state::front::Front;
 use utf8::Utf8;
 use visual::Visual;
 
-pub(crate) type Rows = [u64; 320];
+// How many numbers: 32 to a row.
+pub(crate) const NUMBERS: usize = 352;
+
+pub(crate) type Rows = [u64; NUMBERS];
+
+// The rows of the front and of the feed.
+pub(crate) const FRONT: usize = 9;
+
+pub(crate) const FEED: usize = 10;
 
 // What no case sets a number to.
 pub(crate) const UNSET: u64 = 0x5555_5555_5555_5555;
 
 pub(crate) fn set(rows: &mut Rows, row: usize, letter: u8, n: u64) {
-    rows[row % 10 * 32 + (letter % 32) as usize] = n;
+    rows[row % 11 * 32 + (letter % 32) as usize] = n;
 }
 
 pub(crate) fn number(rows: &Rows, row: usize, letter: u8, usual: u64) -> u64 {
-    let n = rows[row % 10 * 32 + (letter % 32) as usize];
+    let n = rows[row % 11 * 32 + (letter % 32) as usize];
     if n == UNSET { usual } else { n }
 }
 
@@ -182,6 +191,12 @@ fn arabic_french(rows: &Rows, k: usize) -> Machine {
     })
 }
 
+fn shift_jis(rows: &Rows, k: usize) -> Machine {
+    Machine::ShiftJis(ShiftJis {
+        lead: byte(rows, k, b'a', 0),
+    })
+}
+
 fn machine(rows: &Rows, k: usize) -> Machine {
     match number(rows, k, b'k', k as u64) {
         0 => utf8(rows, k),
@@ -191,7 +206,8 @@ fn machine(rows: &Rows, k: usize) -> Machine {
         4 => caseless(rows, k),
         5 => logical(rows, k),
         6 => visual(rows, k),
-        _ => arabic_french(rows, k),
+        7 => arabic_french(rows, k),
+        _ => shift_jis(rows, k),
     }
 }
 
@@ -222,20 +238,20 @@ fn place(rows: &Rows, k: usize) -> Place {
 
 fn context(rows: &Rows) -> Context {
     Context {
-        first: byte(rows, 8, b'a', 0),
-        second: byte(rows, 8, b'b', 0),
-        len: number(rows, 8, b'c', 0) as usize,
+        first: byte(rows, FRONT, b'a', 0),
+        second: byte(rows, FRONT, b'b', 0),
+        len: number(rows, FRONT, b'c', 0) as usize,
     }
 }
 
 fn front(rows: &Rows) -> Front {
     Front {
         context: context(rows),
-        esc_seen: flag(rows, 8, b'e', 0),
-        non_ascii_seen: number(rows, 8, b'y', 1),
-        closed: flag(rows, 8, b'z', 0),
-        bytes: number(rows, 8, b'x', 10),
-        body: number(rows, 8, b'd', 0),
+        esc_seen: flag(rows, FRONT, b'e', 0),
+        non_ascii_seen: number(rows, FRONT, b'y', 1),
+        closed: flag(rows, FRONT, b'z', 0),
+        bytes: number(rows, FRONT, b'x', 10),
+        body: number(rows, FRONT, b'd', 0),
     }
 }
 
@@ -251,6 +267,7 @@ pub(crate) fn state(rows: &Rows) -> State {
             place(rows, 5),
             place(rows, 6),
             place(rows, 7),
+            place(rows, 8),
         ],
     }
 }

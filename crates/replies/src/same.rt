@@ -36,6 +36,7 @@ fn bared(state: State) -> State {
             bare(p[5]),
             bare(p[6]),
             bare(p[7]),
+            bare(p[8]),
         ],
     }
 }

@@ -2,6 +2,7 @@
 // at the end of its line.
 use crate::group::Group;
 use crate::pen::Pen;
+use crate::rows::NUMBERS;
 use crate::rows::Rows;
 use crate::rows::UNSET;
 use crate::tally;
@@ -14,8 +15,8 @@ struct Stand {
 // A case ends: the next one begins with no number set.
 fn case(group: Group, first: &mut Rows, second: &mut Rows) -> Group {
     let with = group.with(first, second);
-    *first = [UNSET; 320];
-    *second = [UNSET; 320];
+    *first = [UNSET; NUMBERS];
+    *second = [UNSET; NUMBERS];
     with
 }
 
@@ -55,8 +56,8 @@ fn turn(s: Stand, c: u8, first: &mut Rows, second: &mut Rows) -> Stand {
 }
 
 pub(crate) fn run(text: &[u8]) {
-    let mut first = [UNSET; 320];
-    let mut second = [UNSET; 320];
+    let mut first = [UNSET; NUMBERS];
+    let mut second = [UNSET; NUMBERS];
     let mut s = Stand {
         pen: Pen::fresh(),
         group: Group::fresh(),

@@ -6,60 +6,10 @@ ghost use mathlib.Core.Path.{_≡_};
 ghost use Prim.Native.Nat.{_≤_};
 use iso2022jp::Iso2022Jp;
 use iso2022jp::Ran;
-use laws::Reason;
 use lengths::JIS;
 use reader::fill;
 use tally::Counts;
-
-// What comes of a byte string: one of the tally's codes, and of none whether an escape is broken, and at which byte.
-struct Verdict {
-    code: u8,
-    is_broken: bool,
-    at: usize,
-}
-
-impl Verdict {
-    fn of(code: u8) -> Verdict {
-        Verdict {
-            code,
-            is_broken: false,
-            at: 0,
-        }
-    }
-
-    fn bad(at: usize) -> Verdict {
-        Verdict {
-            code: tally::NONE,
-            is_broken: false,
-            at,
-        }
-    }
-
-    fn broken(at: usize) -> Verdict {
-        Verdict {
-            code: tally::NONE,
-            is_broken: true,
-            at,
-        }
-    }
-
-    fn dropped(reason: Reason, at: usize) -> Verdict {
-        match reason {
-            Reason::BadByte => Verdict::bad(at),
-            Reason::BrokenEscape => Verdict::broken(at),
-            Reason::CutAtClose => Verdict {
-                code: tally::CUT,
-                is_broken: false,
-                at,
-            },
-            _ => Verdict::of(tally::UNFIT),
-        }
-    }
-
-    fn is(self, other: Verdict) -> bool {
-        self.code == other.code && self.is_broken == other.is_broken && self.at == other.at
-    }
-}
+use tally::Verdict;
 
 fn machine(part: &[u8], index: &[u32]) -> Verdict {
     match Iso2022Jp::fresh().run(part, index) {
@@ -164,6 +114,9 @@ fn second_pair(a: u8, b: u8, index: &[u32]) -> Verdict {
     if at == 0 {
         return none;
     }
+    if Iso2022Jp::FIRST < at {
+        return none;
+    }
     if index.len() < at {
         return none;
     }
@@ -187,31 +140,20 @@ enum Sweep {
     Twice,
 }
 
-// Two that differ count as such whatever their codes are: the last is none of the tally's.
-fn counted(counts: Counts, found: Verdict, expected: Verdict) -> Counts {
-    if found.is(expected) {
-        return counts.counted(found.code, expected.code);
-    }
-    counts.counted(found.code, 0xFF)
-}
-
 fn tried(counts: Counts, sweep: Sweep, n: u32, index: &[u32]) -> Counts {
     let a = low(n / 256);
     let b = low(n);
     match sweep {
-        Sweep::Escapes => counted(counts, machine(&[0x1B, a, b], index), second_escape(a, b)),
-        Sweep::After(second, last) => counted(
-            counts,
+        Sweep::Escapes => counts.counted(machine(&[0x1B, a, b], index), second_escape(a, b)),
+        Sweep::After(second, last) => counts.counted(
             machine(&[0x1B, second, last, b], index),
             second_after(last, b),
         ),
-        Sweep::Pairs => counted(
-            counts,
+        Sweep::Pairs => counts.counted(
             machine(&[0x1B, 0x24, 0x42, a, b], index),
             second_pair(a, b, index),
         ),
-        Sweep::Twice => counted(
-            counts,
+        Sweep::Twice => counts.counted(
             machine(&[0x1B, 0x28, 0x42, 0x1B, a, b], index),
             broken_escape(3, a),
         ),
@@ -226,18 +168,6 @@ fn swept(sweep: Sweep, to: u32, index: &[u32]) -> Counts {
         n += 1;
     }
     counts
-}
-
-fn mapped(index: &[u32]) -> u64 {
-    let mut count = 0;
-    let mut i = 0;
-    while i < index.len() {
-        if index[i] != 0 {
-            count = std::num::wrapping_add_u64(count, 1);
-        }
-        i += 1;
-    }
-    count
 }
 
 fn print_sweeps(index: &[u32]) {
@@ -263,7 +193,9 @@ fn main() {
     tally::print_count(b"bytes of the index ", got as u64);
     let mut index = [0u32; JIS];
     fill::words(&bytes, &mut index);
-    tally::print_count(b", mapped ", mapped(&index));
+    tally::print_mapped(b", mapped ", &index);
+    tally::print_count(b", of the first ", Iso2022Jp::FIRST as u64);
+    tally::print_mapped(b" entries ", &index[0..Iso2022Jp::FIRST]);
     tally::print_word(b"\n");
     print_sweeps(&index);
 }

@@ -3,8 +3,8 @@
 // whole, cut and none, and on how many the two differ, in the byte at which it is none too.
 ghost use mathlib.Core.Path.{_≡_};
 ghost use Prim.Native.Nat.{_<_, _≤_};
-use laws::Reason;
 use tally::Counts;
+use tally::Verdict;
 use utf8::Ran;
 use utf8::Utf8;
 
@@ -16,39 +16,15 @@ struct Part {
     least: u64,
 }
 
-// What comes of a sequence: one of the tally's codes, and of none at which byte, from 1.
-struct Verdict {
-    code: u8,
-    at: usize,
-}
-
-fn dropped(reason: Reason, at: usize) -> Verdict {
-    let code = match reason {
-        Reason::BadByte => tally::NONE,
-        Reason::CutAtClose => tally::CUT,
-        _ => tally::UNFIT,
-    };
-    Verdict { code, at }
-}
-
 fn machine(part: &[u8]) -> Verdict {
     match Utf8::fresh().run(part) {
         Ran::Live(m) => match m.close() {
-            Ran::Live(_) => Verdict {
-                code: tally::WHOLE,
-                at: 0,
-            },
-            Ran::Dropped(reason, at) => dropped(reason, at),
-            Ran::Unfit => Verdict {
-                code: tally::UNFIT,
-                at: 0,
-            },
+            Ran::Live(_) => Verdict::of(tally::WHOLE),
+            Ran::Dropped(reason, at) => Verdict::dropped(reason, at),
+            Ran::Unfit => Verdict::of(tally::UNFIT),
         },
-        Ran::Dropped(reason, at) => dropped(reason, std::num::wrapping_add_usize(at, 1)),
-        Ran::Unfit => Verdict {
-            code: tally::UNFIT,
-            at: 0,
-        },
+        Ran::Dropped(reason, at) => Verdict::dropped(reason, std::num::wrapping_add_usize(at, 1)),
+        Ran::Unfit => Verdict::of(tally::UNFIT),
     }
 }
 
@@ -143,34 +119,21 @@ fn second(bytes: &[u8]) -> Verdict {
         part = taken(part, bytes[i]);
         i += 1;
         if part.left == 9 {
-            return Verdict {
-                code: tally::NONE,
-                at: i,
-            };
+            return Verdict::bad(i);
         }
         if !is_possible(part) {
-            return Verdict {
-                code: tally::NONE,
-                at: i,
-            };
+            return Verdict::bad(i);
         }
     }
-    let code = if part.left == 0 {
+    Verdict::of(if part.left == 0 {
         tally::WHOLE
     } else {
         tally::CUT
-    };
-    Verdict { code, at: 0 }
+    })
 }
 
-// Two that differ in the byte count as such whatever their codes are: the last is none of the tally's.
 fn counted(counts: Counts, bytes: &[u8]) -> Counts {
-    let found = machine(bytes);
-    let expected = second(bytes);
-    if found.at == expected.at {
-        return counts.counted(found.code, expected.code);
-    }
-    counts.counted(found.code, 0xFF)
+    counts.counted(machine(bytes), second(bytes))
 }
 
 fn counted_first(counts: Counts, bytes: &[u8], len: usize) -> Counts {

@@ -2,7 +2,7 @@
 
 use super::text::{damage, text, Text, ALL, VALID};
 use super::{kept, records, TELLING};
-use crate::order::fresh;
+use crate::order::{fresh, SHIFT_JIS};
 use crate::random::Random;
 use crate::record::Record;
 use std::io::{Result, Write};
@@ -91,6 +91,7 @@ fn own_text(place: u8) -> Text {
         1 => Text::Iso2022Jp,
         2 => Text::EucKr,
         3 => Text::Big5,
+        SHIFT_JIS => Text::ShiftJis,
         _ => Text::Single,
     }
 }

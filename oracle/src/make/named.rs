@@ -1,8 +1,8 @@
 //! Cases with names, for `drive`: held scores at the close, states that no
 //! stream reaches, the previous-byte rule, mapped private use, the specials,
-//! the held leads of Korean, document 01's edge lines on EUC-KR and Big5, and
-//! each reason for which a place drops out. They are meant for the tables
-//! `named`.
+//! the held leads of Korean, document 01's edge lines on EUC-KR and Big5, each
+//! reason for which a place drops out, and Shift_JIS. They are meant for the
+//! tables `named`.
 
 use crate::order::fresh;
 use crate::reason::Reason;
@@ -14,6 +14,7 @@ const ISO_2022_JP: u8 = 1;
 const EUC_KR: u8 = 2;
 const BIG5: u8 = 3;
 const CASELESS: u8 = 4;
+const SHIFT_JIS: u8 = 8;
 
 struct Line {
     name: &'static str,
@@ -24,8 +25,10 @@ struct Line {
 }
 
 pub fn run(out: &mut impl Write) -> Result<()> {
-    let groups = [edges(), held(), unreachable(), previous_byte(), mapped(), leads(), reasons()];
-    for line in groups.into_iter().flatten() {
+    let before_103 =
+        [edges(), held(), unreachable(), previous_byte(), mapped(), leads(), reasons()];
+    let shift_jis = [single_bytes(), second_bytes(), entries(), private_use(), open_leads()];
+    for line in before_103.into_iter().chain(shift_jis).flatten() {
         out.write_all(&[b'N', line.name.len() as u8])?;
         out.write_all(line.name.as_bytes())?;
         out.write_all(&[b'L', line.place])?;
@@ -150,5 +153,74 @@ fn reasons() -> Vec<Line> {
         closed(BIG5, "101 Big5, cut at the close", b"\xB0"),
         open(CASELESS, "101 caseless, class 255", b"ab\xFF"),
         from(CASELESS, "101 caseless, not in the slate", Record::none(Reason::NotInSlate, 0), b"a"),
+    ]
+}
+
+/// Shift_JIS: each range of bytes that are no second ones, at its ends.
+fn single_bytes() -> Vec<Line> {
+    vec![
+        open(SHIFT_JIS, "103 ASCII and 80", &[0x00, 0x1B, 0x7F, 0x80]),
+        open(SHIFT_JIS, "103 lead 81", &[0x81]),
+        open(SHIFT_JIS, "103 lead 9F", &[0x9F]),
+        open(SHIFT_JIS, "103 A0, bad byte", &[0x61, 0xA0]),
+        open(SHIFT_JIS, "103 half-width katakana A1 and DF", &[0xA1, 0xDF]),
+        open(SHIFT_JIS, "103 lead E0", &[0xE0]),
+        open(SHIFT_JIS, "103 lead FC", &[0xFC]),
+        open(SHIFT_JIS, "103 FD, bad byte", &[0x61, 0xFD]),
+        open(SHIFT_JIS, "103 FF, bad byte", &[0xFF]),
+    ]
+}
+
+/// Private use takes every second byte that is one.
+fn second_bytes() -> Vec<Line> {
+    vec![
+        open(SHIFT_JIS, "103 second byte 3F, bad byte", &[0xF0, 0x3F]),
+        open(SHIFT_JIS, "103 second byte 40", &[0xF0, 0x40]),
+        open(SHIFT_JIS, "103 second byte 7E", &[0xF0, 0x7E]),
+        open(SHIFT_JIS, "103 second byte 7F, bad byte", &[0xF0, 0x7F]),
+        open(SHIFT_JIS, "103 second byte 80", &[0xF0, 0x80]),
+        open(SHIFT_JIS, "103 second byte FC", &[0xF0, 0xFC]),
+        open(SHIFT_JIS, "103 second byte FD, bad byte", &[0xF0, 0xFD]),
+    ]
+}
+
+fn entries() -> Vec<Line> {
+    vec![
+        open(SHIFT_JIS, "103 entry 7F, bad byte", &[0x81, 0x40]),
+        open(SHIFT_JIS, "103 entry 80", &[0x81, 0x41]),
+        open(SHIFT_JIS, "103 entry D7FF", &[0x81, 0x42]),
+        open(SHIFT_JIS, "103 entry D800, bad byte", &[0x81, 0x43]),
+        open(SHIFT_JIS, "103 entry DFFF, bad byte", &[0x81, 0x44]),
+        open(SHIFT_JIS, "103 entry E000", &[0x81, 0x45]),
+        open(SHIFT_JIS, "103 entry FFFF", &[0x81, 0x46]),
+        open(SHIFT_JIS, "103 entry 10000, bad byte", &[0x81, 0x47]),
+        open(SHIFT_JIS, "103 entry 0, bad byte", &[0x81, 0x48]),
+        open(SHIFT_JIS, "103 the last entry", &[0xFC, 0xFC]),
+    ]
+}
+
+fn private_use() -> Vec<Line> {
+    vec![
+        open(SHIFT_JIS, "103 pointer 8834 is asked of the index, bad byte", &[0xEF, 0xFB]),
+        open(SHIFT_JIS, "103 pointer 8835, mapped", &[0xEF, 0xFC]),
+        open(SHIFT_JIS, "103 pointer 8836, private use over no entry", &[0xF0, 0x40]),
+        open(SHIFT_JIS, "103 pointer 8837, private use over entry D800", &[0xF0, 0x41]),
+        open(SHIFT_JIS, "103 pointer 10714, private use over entry 10000", &[0xF9, 0xFB]),
+        open(SHIFT_JIS, "103 pointer 10715, private use over no entry", &[0xF9, 0xFC]),
+        open(SHIFT_JIS, "103 pointer 10716, mapped", &[0xFA, 0x40]),
+        open(SHIFT_JIS, "103 pointer 10717 is asked of the index, bad byte", &[0xFA, 0x41]),
+    ]
+}
+
+fn open_leads() -> Vec<Line> {
+    let lead = Record { live: true, a: 0xF0, ..Record::default() };
+    let none = Record::none(Reason::NotInSlate, 0);
+    vec![
+        closed(SHIFT_JIS, "103 a lead at the close, cut", &[0x61, 0x81]),
+        closed(SHIFT_JIS, "103 a whole pair at the close", &[0xF0, 0x40]),
+        closed(SHIFT_JIS, "103 nothing at the close, and no space is fed", &[]),
+        from(SHIFT_JIS, "103 from a lead, its second byte", lead, &[0x40]),
+        from(SHIFT_JIS, "103 from a lead, an escape byte, bad byte", lead, &[0x1B]),
+        from(SHIFT_JIS, "103 not in the slate", none, &[0xA0]),
     ]
 }

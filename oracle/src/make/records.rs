@@ -1,6 +1,6 @@
 //! Records in order, to drive one place from.
 
-use crate::order::{fresh, in_order, HELD, LIMIT, STEP, UTF_8};
+use crate::order::{fresh, in_order, HELD, LIMIT, SHIFT_JIS, STEP, UTF_8};
 use crate::random::Random;
 use crate::reason::Reason;
 use crate::record::Record;
@@ -11,6 +11,7 @@ pub fn random(place: u8, random: &mut Random) -> Record {
         0 => utf_8(*random.pick(&UTF_8)),
         1 => iso_2022_jp(random),
         2 | 3 => pairs(place, random),
+        SHIFT_JIS => shift_jis(lead(random)),
         _ => single(place, random),
     };
     let bound = STEP * random.below(LIMIT + 1) as i64;
@@ -21,6 +22,19 @@ pub fn random(place: u8, random: &mut Random) -> Record {
 
 fn utf_8([a, b, c]: [u8; 3]) -> Record {
     Record { a, b, c, ..Record::default() }
+}
+
+/// A lead of Shift_JIS, or none.
+fn lead(random: &mut Random) -> u8 {
+    match random.below(3) {
+        0 => 0,
+        1 => random.within(0x81, 0x9F),
+        _ => random.within(0xE0, 0xFC),
+    }
+}
+
+fn shift_jis(a: u8) -> Record {
+    Record { a, ..Record::default() }
 }
 
 fn iso_2022_jp(random: &mut Random) -> Record {
@@ -84,6 +98,7 @@ pub fn going_on(place: u8, record: &Record, random: &mut Random) -> Vec<u8> {
         (1, 6) if record.c == 0x24 => vec![0x42],
         (1, 6) => vec![*random.pick(b"BJI")],
         (2 | 3, 1..) => vec![random.within(0x41, 0xFE)],
+        (SHIFT_JIS, 1..) => vec![random.within(0x40, 0xFC)],
         _ => vec![],
     }
 }
@@ -92,12 +107,13 @@ pub fn going_on(place: u8, record: &Record, random: &mut Random) -> Vec<u8> {
 pub fn bounds(place: u8) -> Vec<Record> {
     let most = STEP * LIMIT as i64;
     let all = states(place);
+    let single = matches!(place, 4..=7);
     // An odd stride, so that fields with two values take both.
     let chosen = all.iter().step_by(1 + all.len() / 12 | 1);
     let at_bounds = |(number, record): (usize, &Record)| Record {
         score: if number % 2 == 0 { most } else { -most },
-        x: if record.x != 0 || place > 3 { LIMIT } else { record.x },
-        y: if place > 3 { LIMIT - number as u64 % 2 } else { 0 },
+        x: if record.x != 0 || single { LIMIT } else { record.x },
+        y: if single { LIMIT - number as u64 % 2 } else { 0 },
         z: match place {
             2 | 3 if record.e == 1 => record.z.signum() * HELD,
             5 | 6 => LIMIT as i64,
@@ -125,6 +141,7 @@ pub fn states(place: u8) -> Vec<Record> {
         0 => UTF_8.map(utf_8).to_vec(),
         1 => iso_2022_jp_states(),
         2 | 3 => pair_states(place),
+        SHIFT_JIS => [0].into_iter().chain(0x81..=0x9F).chain(0xE0..=0xFC).map(shift_jis).collect(),
         _ => single_states(place),
     };
     let live = |record: Record| Record { live: true, ..record };

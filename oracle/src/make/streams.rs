@@ -2,10 +2,12 @@
 
 use super::cuts::{cut_up, cuts, CUT};
 use super::hebrew::HEBREW;
+use super::shift_jis::SHIFT_JIS;
 use super::text::{damage, text, Text, ALL, VALID};
-use super::{kept, reasons, tables, TELLING};
+use super::{kept, reasons, starts, tables, TELLING};
 use crate::order::LIMIT;
 use crate::random::Random;
+use crate::stream::EVERY;
 use std::io::{Result, Write};
 
 struct Script<'a, W: Write> {
@@ -26,6 +28,8 @@ enum End {
 const ENDS: [End; 3] = [End::Open, End::Closed, End::ClosedByEmpty];
 const CLOSED: [End; 2] = [End::Closed, End::ClosedByEmpty];
 
+const JAPANESE: [Text; 2] = [Text::ShiftJis, Text::Japanese];
+
 /// How a stream that is cut is fed.
 #[derive(Clone, Copy)]
 struct Way {
@@ -35,8 +39,9 @@ struct Way {
 }
 
 impl<W: Write> Script<'_, W> {
-    fn start(&mut self, bits: u8) -> Result<()> {
-        self.out.write_all(&[b'S', bits])
+    fn start(&mut self, bits: u16) -> Result<()> {
+        self.out.write_all(b"S")?;
+        self.out.write_all(&bits.to_le_bytes())
     }
 
     fn feed(&mut self, chunk: &[u8], last: bool) -> Result<()> {
@@ -65,7 +70,11 @@ impl<W: Write> Script<'_, W> {
 
     /// Random bits, cuts, empty chunks, shows between and end.
     fn at_random(&mut self, bytes: &[u8]) -> Result<()> {
-        let bits = if self.random.once_in(4) { self.random.byte() } else { 0xFF };
+        let bits = match self.random.below(16) {
+            0 => self.random.next() as u16,
+            1..=3 => self.random.next() as u16 & EVERY,
+            _ => EVERY,
+        };
         self.start(bits)?;
         let mut rest = bytes;
         while !rest.is_empty() {
@@ -96,18 +105,18 @@ impl<W: Write> Script<'_, W> {
                 _ => digits(index - 65_793, &some, 3),
             };
             for end in [End::Closed, End::ClosedByEmpty] {
-                self.start(0xFF)?;
+                self.start(EVERY)?;
                 self.chunks(&[&bytes], end)?;
             }
         }
         Ok(())
     }
 
-    /// Every cut of each listed stream, every end, with and without empty
-    /// chunks between.
-    fn cuts(&mut self, count: u64) -> Result<()> {
+    /// Every cut of each stream, every end, with and without empty chunks
+    /// between.
+    fn cuts(&mut self, streams: &[&[u8]], count: u64) -> Result<()> {
         let ways = [false, true].map(|with_empty| ENDS.map(|end| Way { with_empty, end }));
-        self.every_cut(CUT, &ways.concat(), count)
+        self.every_cut(streams, &ways.concat(), count)
     }
 
     /// Every cut of each stream, closed both ways.
@@ -126,7 +135,7 @@ impl<W: Write> Script<'_, W> {
                 1 => cuts(stream) - 1,
                 _ => self.random.below(cuts(stream)),
             };
-            self.start(0xFF)?;
+            self.start(EVERY)?;
             self.chunks(&cut_up(stream, cut, false), CLOSED[index % 2])?;
         }
         Ok(())
@@ -142,11 +151,33 @@ impl<W: Write> Script<'_, W> {
                 (0..cuts(stream)).flat_map(|cut| ways.iter().map(move |way| (cut, way)))
             {
                 if kept(index, total, count) {
-                    self.start(0xFF)?;
+                    self.start(EVERY)?;
                     self.chunks(&cut_up(stream, cut, way.with_empty), way.end)?;
                 }
                 index += 1;
             }
+        }
+        Ok(())
+    }
+
+    /// Each start on one stream, byte by byte, shown after each.
+    fn starts(&mut self, starts: &[u16], count: u64) -> Result<()> {
+        let total = starts.len() as u64;
+        for (&bits, _) in starts.iter().zip(0..).filter(|&(_, n)| kept(n, total, count)) {
+            self.start(bits)?;
+            for (byte, left) in starts::STREAM.chunks(1).zip((0..starts::STREAM.len()).rev()) {
+                self.feed(byte, left == 0)?;
+                self.show()?;
+            }
+        }
+        Ok(())
+    }
+
+    /// Each of all 65,536 starts on a stream of two bytes.
+    fn all_starts(&mut self, count: u64) -> Result<()> {
+        for bits in (0..=u16::MAX).filter(|&bits| kept(u64::from(bits), 1 << 16, count)) {
+            self.start(bits)?;
+            self.chunks(&[b"a\xE0"], End::Open)?;
         }
         Ok(())
     }
@@ -188,7 +219,7 @@ impl<W: Write> Script<'_, W> {
                 (text(&mut self.random, kind, 20), text(&mut self.random, kind, 20));
             let name = ["mild", "random", "demo"][number as usize % 3];
             let lent = tables::named(name, self.random.next()).expect("a known name");
-            self.start(0xFF)?;
+            self.start(EVERY)?;
             self.chunks(&[&first], End::Open)?;
             self.out.write_all(b"T")?;
             self.out.write_all(&lent.bytes)?;
@@ -201,7 +232,7 @@ impl<W: Write> Script<'_, W> {
     /// not. The head takes nearly all, so that it is quickly read.
     fn limit(&mut self) -> Result<()> {
         let chunk = [b'a'; 65_536];
-        self.start(0xFF)?;
+        self.start(EVERY)?;
         for _ in 1..LIMIT / 65_536 {
             self.feed(&chunk, false)?;
         }
@@ -233,7 +264,13 @@ pub fn run(kind: &str, seed: u64, count: u64, out: &mut impl Write) -> Result<bo
     let mut script = Script { out, random: Random::new(seed) };
     match kind {
         "short" => script.short(count)?,
-        "cuts" => script.cuts(count)?,
+        "cuts" => script.cuts(CUT, count)?,
+        "shift-jis" => script.cuts(SHIFT_JIS, count)?,
+        "shift-jis-few" => script.few_cuts(SHIFT_JIS, count)?,
+        "shift-jis-text" => script.texts(&JAPANESE, false, count)?,
+        "shift-jis-damaged" => script.texts(&JAPANESE, true, count)?,
+        "starts" => script.starts(&starts::few(), count)?,
+        "starts-all" => script.all_starts(count)?,
         "reasons" => script.closed_cuts(&reasons::streams(), count)?,
         "reasons-few" => script.few_cuts(&reasons::streams(), count)?,
         "hebrew" => script.closed_cuts(HEBREW, count)?,

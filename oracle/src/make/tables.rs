@@ -122,6 +122,16 @@ fn for_named() -> Tables {
     }
     tables.set(Part::EucKr, euc_kr(0x82, 0x41), 0xAC06);
     tables.set(Part::EucKr, euc_kr(0xC9, 0xA2), 0xE000);
+    // The entries at which a range of code points ends; those beside private
+    // use, and two in it, which are not asked; the last.
+    for (pointer, entry) in [0x7F, 0x80, 0xD7FF, 0xD800, 0xDFFF, 0xE000, 0xFFFF, 0x1_0000]
+        .into_iter()
+        .enumerate()
+        .chain([(8835, 0x4E00), (8837, 0xD800), (10_714, 0x1_0000), (10_716, 0x4E00)])
+        .chain([(11_279, 0x4E00)])
+    {
+        tables.set(Part::Jis, pointer, entry);
+    }
     tables
 }
 
@@ -136,7 +146,6 @@ pub fn standard(folder: &str) -> Result<Tables> {
     ] {
         let bytes = std::fs::read(format!("{folder}/{file}"))?;
         let (start, entries, width) = part.layout();
-        // The JIS file is longer than what ISO-2022-JP can point at.
         let used = bytes.get(..entries * width).ok_or(Error::other(format!("{file}: short")))?;
         tables.bytes[start..start + used.len()].copy_from_slice(used);
     }

@@ -11,38 +11,53 @@ pub enum Text {
     EucKr,
     Big5,
     Single,
+    ShiftJis,
     /// Any bytes.
     Noise,
     /// Few bytes at which rules turn.
     Telling,
-    /// Korean in EUC-KR, Chinese in Big5: words whose pairs the Standard's
-    /// indexes map, all of them.
+    /// Korean in EUC-KR, Chinese in Big5, Japanese in Shift_JIS: words whose
+    /// pairs the Standard's indexes map, all of them.
     Hangul,
     Hanzi,
+    Japanese,
     /// Words of Hebrew letters as the tables `hebrew` have them, with
     /// punctuation at either end.
     Hebrew,
 }
 
 /// What one of the encodings allows.
-pub const VALID: [Text; 5] = [Text::Utf8, Text::Iso2022Jp, Text::EucKr, Text::Big5, Text::Single];
-pub const ALL: [Text; 8] = [
+pub const VALID: [Text; 6] =
+    [Text::Utf8, Text::Iso2022Jp, Text::EucKr, Text::Big5, Text::Single, Text::ShiftJis];
+pub const ALL: [Text; 9] = [
     Text::Ascii,
     Text::Utf8,
     Text::Iso2022Jp,
     Text::EucKr,
     Text::Big5,
     Text::Single,
+    Text::ShiftJis,
     Text::Noise,
     Text::Telling,
 ];
 
 /// The kind of that name.
 pub fn named(name: &str) -> Option<Text> {
-    let names = ["ascii", "utf-8", "iso-2022-jp", "euc-kr", "big5", "single", "noise", "telling"];
+    let names = [
+        "ascii",
+        "utf-8",
+        "iso-2022-jp",
+        "euc-kr",
+        "big5",
+        "single",
+        "shift_jis",
+        "noise",
+        "telling",
+    ];
     match name {
         "hangul" => Some(Text::Hangul),
         "hanzi" => Some(Text::Hanzi),
+        "japanese" => Some(Text::Japanese),
         "hebrew" => Some(Text::Hebrew),
         _ => names.iter().position(|&known| known == name).map(|at| ALL[at]),
     }
@@ -59,10 +74,12 @@ pub fn text(random: &mut Random, kind: Text, length: usize) -> Vec<u8> {
             Text::EucKr => euc_kr(random, &mut bytes),
             Text::Big5 => big5(random, &mut bytes),
             Text::Single => single(random, &mut bytes),
+            Text::ShiftJis => shift_jis(random, &mut bytes),
             Text::Noise => bytes.push(random.byte()),
             Text::Telling => bytes.push(*random.pick(&TELLING)),
             Text::Hangul => hangul(random, &mut bytes),
             Text::Hanzi => hanzi(random, &mut bytes),
+            Text::Japanese => japanese(random, &mut bytes),
             Text::Hebrew => hebrew(random, &mut bytes),
         }
     }
@@ -144,6 +161,23 @@ fn big5(random: &mut Random, bytes: &mut Vec<u8>) {
     }
 }
 
+/// Second bytes of Shift_JIS, on either side of 7F.
+const SECONDS: [(u8, u8); 2] = [(0x40, 0x7E), (0x80, 0xFC)];
+
+fn shift_jis(random: &mut Random, bytes: &mut Vec<u8>) {
+    let seconds = *random.pick(&SECONDS);
+    match random.below(14) {
+        0 | 1 => bytes.push(ascii(random)),
+        2 | 3 => bytes.push(random.within(0xA1, 0xDF)),
+        4 => pair(random, (0x81, 0x87), seconds, bytes),
+        5 => pair(random, (0xF0, 0xF9), seconds, bytes),
+        6 => pair(random, (0xED, 0xFC), seconds, bytes),
+        7 => bytes.push(*random.pick(&[0x1B, 0x7F, 0x80, 0x80])),
+        8 => pair(random, (0xE0, 0xEA), seconds, bytes),
+        _ => pair(random, (0x88, 0x9F), seconds, bytes),
+    }
+}
+
 /// A word or two and what parts it from the next.
 fn hangul(random: &mut Random, bytes: &mut Vec<u8>) {
     const UPPER: (u8, u8) = (0xA1, 0xFE);
@@ -167,6 +201,22 @@ fn hanzi(random: &mut Random, bytes: &mut Vec<u8>) {
         0 => bytes.extend((0..=random.below(5)).map(|_| random.within(b'a', b'z'))),
         1 => bytes.extend(b" "),
         _ => bytes.extend(*random.pick(&[b"\xA1\x41", b"\xA1\x43"])),
+    }
+}
+
+fn japanese(random: &mut Random, bytes: &mut Vec<u8>) {
+    let seconds = *random.pick(&SECONDS);
+    let length = 1 + random.below(4);
+    match random.below(8) {
+        0 => bytes.extend((0..length).map(|_| random.within(b'a', b'z'))),
+        1 => bytes.extend((0..length).map(|_| random.within(0xA6, 0xDF))),
+        2 => (0..length).for_each(|_| pair(random, (0x83, 0x83), (0x40, 0x7E), bytes)),
+        3 => (0..length).for_each(|_| pair(random, (0xE0, 0xE9), seconds, bytes)),
+        4 | 5 => (0..length).for_each(|_| pair(random, (0x89, 0x97), seconds, bytes)),
+        _ => (0..length).for_each(|_| pair(random, (0x82, 0x82), (0x9F, 0xF1), bytes)),
+    }
+    if random.once_in(4) {
+        bytes.extend(*random.pick(&[b"\x81\x41".as_slice(), b"\x81\x42", b" "]));
     }
 }
 

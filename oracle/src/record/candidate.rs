@@ -4,11 +4,11 @@ use super::Record;
 use crate::lent::{SingleByteData, SINGLE};
 use crate::order::fresh;
 use crate::stand::iso_2022_jp::{Iso2022Jp, State};
-use crate::stand::{pairs::Pairs, utf_8::Utf8, Decoder};
+use crate::stand::{pairs::Pairs, shift_jis::ShiftJis, utf_8::Utf8, Decoder};
 use crate::{
     ArabicFrenchCandidate, Big5Candidate, Candidate, CaselessCandidate, EucKrCandidate,
     InnerCandidate, Iso2022Candidate, LatinCaseState, LatinCj, LatinKorean, LogicalCandidate,
-    Utf8Candidate, VisualCandidate,
+    ShiftJisCandidate, Utf8Candidate, VisualCandidate,
 };
 
 impl Record {
@@ -22,16 +22,17 @@ impl Record {
     }
 
     fn inner(&self, place: u8) -> InnerCandidate {
-        let data = &SINGLE[usize::from(place.saturating_sub(4))];
+        let single = |place: u8| &SINGLE[usize::from(place - 4)];
         match place {
             0 => self.utf_8(),
             1 => self.iso_2022_jp(),
             2 => self.euc_kr(),
             3 => self.big5(),
-            4 => self.caseless(data),
-            5 => self.logical(data),
-            6 => self.visual(data),
-            _ => self.arabic_french(data),
+            4 => self.caseless(single(place)),
+            5 => self.logical(single(place)),
+            6 => self.visual(single(place)),
+            7 => self.arabic_french(single(place)),
+            _ => self.shift_jis(),
         }
     }
 
@@ -130,5 +131,10 @@ impl Record {
             current_word_len: self.x,
             longest_word: self.y,
         })
+    }
+
+    fn shift_jis(&self) -> InnerCandidate {
+        let decoder = Decoder::ShiftJis(ShiftJis { lead: self.a });
+        InnerCandidate::Shift(ShiftJisCandidate { decoder })
     }
 }

@@ -5,7 +5,7 @@ use crate::stand::Decoder;
 use crate::{
     ArabicFrenchCandidate, Big5Candidate, Candidate, CaselessCandidate, EucKrCandidate,
     InnerCandidate, Iso2022Candidate, LatinCaseState, LatinCj, LatinKorean, LogicalCandidate,
-    Utf8Candidate, VisualCandidate,
+    ShiftJisCandidate, Utf8Candidate, VisualCandidate,
 };
 
 impl Record {
@@ -21,6 +21,7 @@ impl Record {
             InnerCandidate::Logical(c) => of_logical(c),
             InnerCandidate::Visual(c) => of_visual(c),
             InnerCandidate::ArabicFrench(c) => of_arabic_french(c),
+            InnerCandidate::Shift(c) => of_shift_jis(c),
         };
         Some(Record { live: true, score, ..fields })
     }
@@ -41,6 +42,7 @@ fn of_iso_2022_jp(c: &Iso2022Candidate) -> Record {
 fn lead(decoder: &Decoder) -> u8 {
     match decoder {
         Decoder::Big5(pairs) | Decoder::EucKr(pairs) => pairs.lead,
+        Decoder::ShiftJis(decoder) => decoder.lead,
         _ => unreachable!(),
     }
 }
@@ -114,4 +116,8 @@ fn of_arabic_french(c: &ArabicFrenchCandidate) -> Record {
         y: c.longest_word,
         ..Record::default()
     }
+}
+
+fn of_shift_jis(c: &ShiftJisCandidate) -> Record {
+    Record { a: lead(&c.decoder), ..Record::default() }
 }

@@ -26,11 +26,17 @@ taken-requires c κs = search needs
 add-i : tie.Need-add-i Inv-loop μ-loop
 add-i c = search needs
 
+bad-requires : tie.Need-bad-requires Inv-loop μ-loop
+bad-requires c κs = search needs
+
 returns : tie.Need-returns Inv-loop μ-loop
 returns c = search needs
 
 is-possible-requires : tie.Need-is-possible-requires Inv-loop μ-loop
 is-possible-requires c κs = search needs
+
+bad-requires-2 : tie.Need-bad-requires-2 Inv-loop μ-loop
+bad-requires-2 c κs = search needs
 
 returns-2 : tie.Need-returns-2 Inv-loop μ-loop
 returns-2 c = search needs
@@ -41,11 +47,11 @@ loop-less c = search needs
 loop-again : tie.Need-loop-again Inv-loop μ-loop
 loop-again c = search needs
 
+of-requires : tie.Need-of-requires Inv-loop μ-loop
+of-requires c κs = search needs
+
 returns-3 : tie.Need-returns-3 Inv-loop μ-loop
 returns-3 c = search needs
-
-returns-4 : tie.Need-returns-4 Inv-loop μ-loop
-returns-4 c = search needs
 
 pub second-spec : {M : Type 1} → statement M
 second-spec =
@@ -58,10 +64,12 @@ second-spec =
     shared-slice-read-taken
     taken-requires
     add-i
+    bad-requires
     returns
     is-possible-requires
+    bad-requires-2
     returns-2
     loop-less
     loop-again
-    returns-3
-    returns-4)
+    of-requires
+    returns-3)

@@ -2,8 +2,8 @@
 use Prim.Native.Nat.{_-_, _≤_}
 use lib.ListN.{length}
 use borrow.Author.Needs.{needs}
-use Rattle.sweep_iso2022jp.proofs.mapped.Statement.{statement}
-use Rattle.sweep_iso2022jp.proofs.mapped.Tie as tie
+use Rattle.tally.proofs.mapped.Statement.{statement}
+use Rattle.tally.proofs.mapped.Tie as tie
 
 abbrev Inv-loop : tie.InvT-loop
 Inv-loop index count₀ i₀ count i = i ≤ length index
