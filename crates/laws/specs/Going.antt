@@ -1,14 +1,15 @@
 -- The loop of a run, said once for every machine: what holds at its head after i bytes, and what a turn and the end make of it.
 use mathlib.Core.Path.{_≡_, refl, sym, ap, _∙_}
 use mathlib.Core.List.{List}
-use Prim.Native.Nat.{ℕ, _+_, _*_, _^_, _<_, _≤_}
+use Prim.Native.Nat.{ℕ, _+_, _-_, _*_, _^_, _<_, _≤_}
 use native.Mathlib.Nat.{add-zero, mul-le-mul-left}
 use native.Mathlib.Omega.{arith}
 use lib.IntN.{ℤ, pos, natAbs, _+ℤ_}
-use lib.ListN.{length, getD, drop, length-drop}
+use lib.ListN.{length, getD, take, drop, length-take, length-drop}
 use mir.Syntax.{w64}
 use mir.Val.{SFits, toZ, ofZ}
-use Rattle.laws.specs.Run.{Out, none, live, alive, run, endsAt, lastAt, run-done, turn-live, turn-none, ends-turn-live, ends-turn-none}
+use Rattle.laws.specs.Lists.{block-is}
+use Rattle.laws.specs.Run.{Out, none, live, alive, run, endsAt, lastAt, run-append, run-done, turn-live, turn-none, ends-append, ends-live, ends-turn-live, ends-turn-none}
 use Rattle.laws.specs.Sizes.{abs-add, fits64, thru, thru64}
 
 -- P n is what holds of a record after n bytes, and a byte changes the score by at most g: after i bytes of xs, from a record of
@@ -67,3 +68,18 @@ module _ {D S : Type 0} {step : S → ℕ → Out D S} {P : ℕ → S → Type 0
 -- a machine whose step changes no score
 pub going-still : {D S : Type 0} {step : S → ℕ → Out D S} {P : ℕ → S → Type 0} {n : ℕ} {start : S} {xs : List ℕ} {i : ℕ} {m : S} → Going step P 0 n start xs i m (pos 0) → i < length xs → {next : S} {k : ℤ} → step m (getD xs i 0) ≡ live next k → P (n + i + 1) next × (k ≡ pos 0) → Going step P 0 n start xs (i + 1) next (pos 0)
 going-still going h {next} e p = going-turn going h (e ∙ ap (live next) (p .1)) (omega arith) (p .0)
+
+-- and several bytes at once, which it takes all
+module _ {D S : Type 0} {step : S → ℕ → Out D S} {P : ℕ → S → Type 0} {n : ℕ} {start : S} {xs : List ℕ} {i : ℕ} {m : S} (going : Going step P 0 n start xs i m (pos 0)) (e : ℕ) (least : i ≤ e) (most : e ≤ length xs) {next : S} (gave : run step (alive m) (take (e - i) (drop i xs)) ≡ alive next) where
+  block-rest : run step (alive m) (drop i xs) ≡ run step (alive next) (drop e xs)
+  block-rest =
+      ap (run step (alive m)) (sym (block-is xs i e least)) ∙ (run-append step (alive m) (take (e - i) (drop i xs)) (drop e xs) ∙ ap (λ (o : Out D S). run step o (drop e xs)) gave)
+
+  block-ends : endsAt step (alive m) (drop i xs) ≡ (e - i) + endsAt step (alive next) (drop e xs)
+  block-ends =
+      let k : length (take (e - i) (drop i xs)) ≡ e - i = simp (length-take, length-drop) (omega arith) in
+      ap (endsAt step (alive m)) (sym (block-is xs i e least)) ∙ (ends-append step (alive m) (take (e - i) (drop i xs)) (drop e xs) ∙ rw (gave, ends-live step (alive m) (take (e - i) (drop i xs)) next (pos 0) gave, k))
+
+  pub going-block : P (n + e) next → Going step P 0 n start xs e next (pos 0)
+  going-block p =
+      record { within = most; sound = p; small = omega arith; rest = sym block-rest ∙ going .rest; ends = omega (arith, block-ends, going .ends) }

@@ -109,10 +109,14 @@ module _ {D S : Type 0} (step : S → ℕ → Out D S) where
   run-done o [] h = refl
   run-done o (x ∷ xs) h = absurd (not-suc-le-zero h)
 
+  pub run-turn : (o : Out D S) (xs : List ℕ) (i : ℕ) → i < length xs → run step o (drop i xs) ≡ run step (withByte step o (getD xs i 0)) (drop (i + 1) xs)
+  unfolding run
+  run-turn o xs i h = rw (drop-cons xs i 0 h, add-one)
+
   module _ (m : S) (s : ℤ) (xs : List ℕ) (i : ℕ) (h : i < length xs) where
     run-at : run step (live m s) (drop i xs) ≡ run step (plus s (step m (getD xs i 0))) (drop (i + 1) xs)
-    unfolding run withByte
-    run-at = rw (drop-cons xs i 0 h, add-one)
+    unfolding withByte
+    run-at = run-turn (live m s) xs i h
 
     pub turn-live : (n : S) (g : ℤ) → step m (getD xs i 0) ≡ live n g → run step (live n (s +ℤ g)) (drop (i + 1) xs) ≡ run step (live m s) (drop i xs)
     unfolding plus
