@@ -10,12 +10,12 @@ use lib.Dec.{eqb}
 use lib.ListN.{length, getD, take, drop, length-take, length-drop, take-append-drop}
 use lib.Seq.{drop-cons, getD-drop}
 use borrow.Author.Tests.{eq-eqb, ne-eqb, eqb-true}
-use Rattle.laws.specs.Lists.{any, block-is}
+use Rattle.laws.specs.Lists.{any, count, block-is}
 use Rattle.laws.specs.Tests.{neither}
 use Rattle.octets.specs.Octets.{nonAscii}
 use Rattle.context.specs.declared.Scanned.{Scanned}
 use Rattle.context.specs.declared.Scanned.the-variants.{Escape, NonAscii, End}
-use Rattle.context.specs.Head.{escape, isTrigger, headOf, scannedAt, scanOf}
+use Rattle.context.specs.Head.{escape, isTrigger, headOf, scannedAt, scanOf, nonAsciiCount}
 
 -- ---- the scan of what is left of a chunk, from offset n on
 unfoldable pub scanFrom : ℕ → List ℕ → Scanned
@@ -84,6 +84,15 @@ head-triggerless (b ∷ bs) = head-triggerless-at (isTrigger b) b (headOf bs) re
 head-take-at : (t : Bool) (b : ℕ) (l bs : List ℕ) → take (length l) bs ≡ l → take (length (cond t [] (b ∷ l))) (b ∷ bs) ≡ cond t [] (b ∷ l)
 head-take-at true b l bs e = refl
 head-take-at false b l bs e = ap (λ (x : List ℕ). b ∷ x) e
+
+-- what has no trigger has no byte that is not ASCII
+pub triggerless-ascii : (xs : List ℕ) → any isTrigger xs ≡ false → nonAsciiCount xs ≡ 0
+unfolding any count
+triggerless-ascii [] e = refl
+triggerless-ascii (b ∷ bs) e =
+    let p = neither (isTrigger b) (any isTrigger bs) e in
+    let q = neither (eqb b escape) (nonAscii b) (p .0) in
+    rw (q .1, triggerless-ascii bs (p .1))
 
 pub head-take : (xs : List ℕ) → take (length (headOf xs)) xs ≡ headOf xs
 unfolding headOf

@@ -1,9 +1,12 @@
 pub mod Agreement
 pub mod AgreementLaws
 pub mod Edges
+pub mod Grid
+pub mod GridLaws
 pub mod HeadLaws
 pub mod Standard
 pub mod Utf8
 pub mod Utf8Laws
+pub mod Walk
 pub mod WellFormed
 pub mod WellFormedLaws

@@ -8,11 +8,9 @@ use lib.ListN.{length}
 use Rattle.laws.specs.Limit.{limit}
 use Rattle.laws.specs.Answer.{answered, answeredIf}
 use Rattle.laws.specs.declared.Reason.the-variants.{BadByte, CutAtClose}
-use Rattle.laws.specs.Run.{Outcome, none, live, alive, run, lastAt}
+use Rattle.laws.specs.Run.{Outcome, none, alive, run, lastAt}
 use Rattle.octets.specs.Octets.{between}
 use Rattle.utf8.specs.declared.Utf8.{Utf8}
-use Rattle.utf8.specs.declared.Stepped.{Stepped}
-use Rattle.utf8.specs.declared.Stepped.the-variants.{Alive, Invalid}
 use Rattle.utf8.specs.declared.Ran.{Ran}
 use Rattle.utf8.specs.declared.Ran.the-variants.{Live, Dropped, Unfit}
 
@@ -66,10 +64,6 @@ unfoldable pub closeOf : Utf8 → Outcome Utf8
 closeOf m = cond (eqb (m .need) 0) (alive m) (none CutAtClose)
 
 -- ---- the code's answers
-abbrev pub outOf : Stepped → Outcome Utf8
-outOf (Alive m g) = live m g
-outOf Invalid = none BadByte
-
 -- the change of the score, which is 0, is not told
 abbrev living : Utf8 → ℤ → Ran
 living m s = Live m

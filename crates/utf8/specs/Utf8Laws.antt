@@ -1,4 +1,4 @@
--- What holds of the UTF-8 machine's definitions, and each way through the code.
+-- What holds of the UTF-8 machine's definitions.
 use mathlib.Core.Path.{_≡_, refl, sym, subst, _∙_}
 use mathlib.Core.Bool.{Bool, true, false, cond, _||_}
 use mathlib.Core.List.{List}
@@ -16,41 +16,21 @@ use Rattle.laws.specs.Run.{Outcome, none, live, run, lastAt, alive}
 use Rattle.laws.specs.Tests.{both, either}
 use Rattle.laws.specs.Still.{Lives, Ends, none-live, run-ends}
 use Rattle.octets.specs.Octets.{between}
-use Rattle.octets.specs.BetweenLaws.{inside, below, above}
+use Rattle.octets.specs.BetweenLaws.{inside, above}
 use Rattle.utf8.specs.declared.Utf8.{Utf8}
 use Rattle.utf8.specs.Utf8.{needs, fresh, Sound, plain, after-E0, after-ED, after-F0, after-F4, nextIn, nextCut, soundB, leadOf, trailOf, stepOf, closeOf, ranAs, Ready, readyB, ranOf, closedOf}
 
--- ---- each way through a byte that begins a sequence
+-- ---- a byte that begins a sequence
 module _ (b : ℕ) where
   pub lead-ascii : b < 0x80 → alive fresh ≡ leadOf b
   unfolding leadOf
   lead-ascii h = rw (inside 0x00 0x7F b (omega arith) (omega arith))
 
-  -- no byte that begins a sequence: past the ASCII, and outside C2..DF, E0..EF, F0..F4
-  no-lead : between 0xC2 0xDF b ≡ false → between 0xE0 0xEF b ≡ false → between 0xF0 0xF4 b ≡ false → 0x7F < b → none BadByte ≡ leadOf b
-  unfolding leadOf
-  no-lead p q r h = rw (above 0x00 0x7F b h, p, q, r)
-
-  pub lead-early : 0x80 ≤ b → b < 0xC2 → none BadByte ≡ leadOf b
-  lead-early p q = no-lead (below 0xC2 0xDF b q) (below 0xE0 0xEF b (omega arith)) (below 0xF0 0xF4 b (omega arith)) (omega arith)
-
   pub lead-late : 0xF5 ≤ b → none BadByte ≡ leadOf b
-  lead-late p = no-lead (above 0xC2 0xDF b (omega arith)) (above 0xE0 0xEF b (omega arith)) (above 0xF0 0xF4 b (omega arith)) (omega arith)
-
-  pub lead-two : 0xC2 ≤ b → b < 0xE0 → alive (needs 1 0x80 0xBF) ≡ leadOf b
   unfolding leadOf
-  lead-two p q = rw (above 0x00 0x7F b (omega arith), inside 0xC2 0xDF b p (omega arith))
+  lead-late p = rw (above 0x00 0x7F b (omega arith), above 0xC2 0xDF b (omega arith), above 0xE0 0xEF b (omega arith), above 0xF0 0xF4 b (omega arith))
 
-  module _ (lo hi : ℕ) where
-    pub lead-three : 0xE0 ≤ b → b < 0xF0 → lo ≡ cond (eqb b 0xE0) 0xA0 0x80 → hi ≡ cond (eqb b 0xED) 0x9F 0xBF → alive (needs 2 lo hi) ≡ leadOf b
-    unfolding leadOf
-    lead-three p q e f = rw (above 0x00 0x7F b (omega arith), above 0xC2 0xDF b (omega arith), inside 0xE0 0xEF b p (omega arith), e, f)
-
-    pub lead-four : 0xF0 ≤ b → b < 0xF5 → lo ≡ cond (eqb b 0xF0) 0x90 0x80 → hi ≡ cond (eqb b 0xF4) 0x8F 0xBF → alive (needs 3 lo hi) ≡ leadOf b
-    unfolding leadOf
-    lead-four p q e f = rw (above 0x00 0x7F b (omega arith), above 0xC2 0xDF b (omega arith), above 0xE0 0xEF b (omega arith), inside 0xF0 0xF4 b p (omega arith), e, f)
-
--- ---- each way through a step
+-- ---- a step
 module _ (m : Utf8) (b : ℕ) where
   pub step-lead : m .need ≡ 0 → leadOf b ≡ stepOf m b
   unfolding stepOf
@@ -64,12 +44,6 @@ module _ (m : Utf8) (b : ℕ) where
     pub step-outside : between (m .lo) (m .hi) b ≡ false → none BadByte ≡ stepOf m b
     unfolding trailOf
     step-outside h = sym (step-trail e ∙ rw h)
-
-    pub step-below : b < m .lo → none BadByte ≡ stepOf m b
-    step-below h = step-outside (below (m .lo) (m .hi) b h)
-
-    pub step-above : m .hi < b → none BadByte ≡ stepOf m b
-    step-above h = step-outside (above (m .lo) (m .hi) b h)
 
     pub step-within : m .lo ≤ b → b ≤ m .hi → alive (needs (m .need - 1) 0x80 0xBF) ≡ stepOf m b
     unfolding trailOf
@@ -119,14 +93,6 @@ cut-range n lo hi k l b apart h p q = at (eqb b k) (eqb b l) refl refl
     at true false e f = p
     at false true e f = q
     at false false e f = plain h
-
--- between two sequences there is one record only
-pub whole-fresh : (m : Utf8) → Sound m → m .need ≡ 0 → m ≡ fresh
-whole-fresh m (plain h) e = rw e
-whole-fresh m after-E0 e = absurd (omega (arith, e))
-whole-fresh m after-ED e = absurd (omega (arith, e))
-whole-fresh m after-F0 e = absurd (omega (arith, e))
-whole-fresh m after-F4 e = absurd (omega (arith, e))
 
 pub fresh-sound : Sound fresh
 fresh-sound = plain {n = 0} (omega arith)

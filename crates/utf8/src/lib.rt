@@ -1,9 +1,14 @@
 // The UTF-8 validator: dropped at the first byte that the Encoding Standard's decoder calls an error.
 ghost use mathlib.Core.Path.{_≡_};
-ghost use mathlib.Core.Bool.{cond};
-ghost use lib.Dec.{eqb};
-ghost use Rattle.laws.specs.Run.{run, lastAt, alive};
-ghost use Rattle.utf8.specs.Utf8.{Sound, closedOf, fresh, leadOf, needs, nextCut, nextIn, outOf, ranAs, ranOf, soundB, stepOf};
+ghost use mathlib.Core.Bool.{true};
+ghost use Prim.Native.Nat.{_<_};
+ghost use Rattle.context.specs.Head.{nonAsciiCount};
+ghost use Rattle.utf8.specs.Grid.{Live, cutState, last, recordAt, stateOf};
+ghost use Rattle.utf8.specs.Utf8.{closedOf, fresh, needs, nextIn, ranOf, soundB};
+
+pub mod grid;
+
+use context::Scanned;
 use laws::Reason;
 
 // Between two bytes: how many more the sequence needs, and the range of the next one.
@@ -11,12 +16,6 @@ pub struct Utf8 {
     pub need: u8,
     pub lo: u8,
     pub hi: u8,
-}
-
-// The record after a byte and the change of the score, which is 0; or the byte is bad.
-enum Stepped {
-    Alive(Utf8, i64),
-    Invalid,
 }
 
 // What a stretch, or the end of the stream, leaves: the record; or why it drops out and at which offset in the stretch, 0 at
@@ -52,117 +51,86 @@ impl Utf8 {
         false
     }
 
-    // Whether it is one of two: cut at its low end, or at its high end.
-    fn next_cut(self, lo: u8, hi: u8) -> bool
-        ensures { λ r. ⌜ r ≡ nextCut self lo hi ⌝ }
+    // The state of a record whose next byte's range is cut: at its low end, or, one further, at its high end.
+    fn cut_state(self, lo: u8, hi: u8, state: u8) -> u8
+        requires { ⌜ state < last ⌝ }
+        ensures { λ r. ⌜ r ≡ cutState self lo hi state ⌝ }
     {
         if self.next_in(lo, Utf8::UPPER) {
-            return true;
+            return state;
         }
-        self.next_in(Utf8::LOWER, hi)
+        if self.next_in(Utf8::LOWER, hi) {
+            return state + 1;
+        }
+        grid::BAD
+    }
+
+    // The record's state in the grid; the first one stands for every record that the kind can't hold.
+    fn state(self) -> u8
+        ensures { λ r. ⌜ r ≡ stateOf self ⌝ }
+    {
+        if self.next_in(Utf8::LOWER, Utf8::UPPER) {
+            if self.need <= 3 {
+                return self.need + 1;
+            }
+            return grid::BAD;
+        }
+        if self.need == 2 {
+            return self.cut_state(0xA0, 0x9F, 5);
+        }
+        if self.need == 3 {
+            return self.cut_state(0x90, 0x8F, 7);
+        }
+        grid::BAD
+    }
+
+    fn needs(need: u8, lo: u8, hi: u8) -> Utf8
+        ensures { λ r. ⌜ r ≡ needs need lo hi ⌝ }
+    {
+        Utf8 { need, lo, hi }
+    }
+
+    // The record of a state that has one.
+    pub(crate) fn of_state(state: u8) -> Utf8
+        requires { ⌜ Live state ⌝ }
+        ensures { λ r. ⌜ r ≡ recordAt state ⌝ }
+    {
+        match state {
+            1 => Utf8::fresh(),
+            2 => Utf8::needs(1, Utf8::LOWER, Utf8::UPPER),
+            3 => Utf8::needs(2, Utf8::LOWER, Utf8::UPPER),
+            4 => Utf8::needs(3, Utf8::LOWER, Utf8::UPPER),
+            5 => Utf8::needs(2, 0xA0, Utf8::UPPER),
+            6 => Utf8::needs(2, Utf8::LOWER, 0x9F),
+            7 => Utf8::needs(3, 0x90, Utf8::UPPER),
+            _ => Utf8::needs(3, Utf8::LOWER, 0x8F),
+        }
     }
 
     // Whether the record is one that the kind can hold.
     pub fn is_sound(self) -> bool
         ensures { λ r. ⌜ r ≡ soundB self ⌝ }
     {
-        if self.next_in(Utf8::LOWER, Utf8::UPPER) {
-            return self.need <= 3;
-        }
-        if self.need == 2 {
-            return self.next_cut(0xA0, 0x9F);
-        }
-        if self.need == 3 {
-            return self.next_cut(0x90, 0x8F);
-        }
-        false
+        grid::BAD < self.state()
     }
 
-    fn awaits(need: u8, lo: u8, hi: u8) -> Stepped
-        ensures { λ r. ⌜ outOf r ≡ alive (needs need lo hi) ⌝ }
-    {
-        Stepped::Alive(Utf8 { need, lo, hi }, 0)
-    }
-
-    // A byte where a sequence begins. What the record has already is not written anew: the loop is the faster for it.
-    fn lead(self, b: u8) -> Stepped
-        requires { ⌜ self ≡ fresh ⌝ }
-        ensures { λ r. ⌜ outOf r ≡ leadOf b ⌝ }
-    {
-        if b < 0x80 {
-            return Stepped::Alive(self, 0);
-        }
-        if b < 0xC2 {
-            return Stepped::Invalid;
-        }
-        if b < 0xE0 {
-            return Utf8::awaits(1, self.lo, self.hi);
-        }
-        if b < 0xF0 {
-            return Utf8::awaits(
-                2,
-                pick(b, 0xE0, 0xA0, Utf8::LOWER),
-                pick(b, 0xED, 0x9F, Utf8::UPPER),
-            );
-        }
-        if b < 0xF5 {
-            return Utf8::awaits(
-                3,
-                pick(b, 0xF0, 0x90, Utf8::LOWER),
-                pick(b, 0xF4, 0x8F, Utf8::UPPER),
-            );
-        }
-        Stepped::Invalid
-    }
-
-    fn step(self, b: u8) -> Stepped
-        requires { ⌜ Sound self ⌝ }
-        ensures { λ r. ⌜ outOf r ≡ stepOf self b ⌝ }
-    {
-        let need = self.need;
-        if need == 0 {
-            return self.lead(b);
-        }
-        if b < self.lo {
-            return Stepped::Invalid;
-        }
-        if self.hi < b {
-            return Stepped::Invalid;
-        }
-        Utf8::awaits(need - 1, Utf8::LOWER, Utf8::UPPER)
-    }
-
-    fn run_fit(self, part: &[u8]) -> Ran
-        requires { ⌜ Sound self ⌝ }
-        ensures { λ r. ⌜ r ≡ ranAs (lastAt stepOf (alive self) (now (part .entry))) (run stepOf (alive self) (now (part .entry))) ⌝ }
-    {
-        let mut m = self;
-        let mut i = 0;
-        while i < part.len() {
-            let Stepped::Alive(next, _) = m.step(part[i]) else {
-                return Ran::Dropped(Reason::BadByte, i);
-            };
-            m = next;
-            i += 1;
-        }
-        // made anew, so that its fields are not copied as one piece
-        Ran::Live(Utf8 {
-            need: m.need,
-            lo: m.lo,
-            hi: m.hi,
-        })
-    }
-
-    // A stretch of bytes, one after the other.
+    // A stretch of bytes, one after the other. Between two sequences a stretch of ASCII changes nothing and needs no grid.
     pub fn run(self, part: &[u8]) -> Ran
         ensures { λ r. ⌜ r ≡ ranOf self (now (part .entry)) ⌝ }
     {
-        if self.is_sound() {
-            if part.len() <= lengths::MOST {
-                return self.run_fit(part);
+        let from = self.state();
+        if from == grid::BAD {
+            return Ran::Unfit;
+        }
+        if lengths::MOST < part.len() {
+            return Ran::Unfit;
+        }
+        if from == grid::BETWEEN {
+            if is_ascii(part) {
+                return Ran::Live(Utf8::fresh());
             }
         }
-        Ran::Unfit
+        grid::run(from, part)
     }
 
     // The end of the stream: a sequence that is cut drops out.
@@ -179,12 +147,13 @@ impl Utf8 {
     }
 }
 
-// `there` where the byte is the key, and `other` elsewhere.
-fn pick(b: u8, key: u8, there: u8, other: u8) -> u8
-    ensures { λ r. ⌜ r ≡ cond (eqb b key) there other ⌝ }
+// Whether a stretch is ASCII. The scan says so faster than the count where it is short, but stops at an escape.
+fn is_ascii(part: &[u8]) -> bool
+    ensures { λ r. ⌜ (r ≡ true → nonAsciiCount (now (part .entry)) ≡ 0) ⌝ }
 {
-    if b == key {
-        return there;
+    match context::scan(part) {
+        Scanned::End => true,
+        Scanned::NonAscii(_) => false,
+        Scanned::Escape(_) => context::count_non_ascii(part) == 0,
     }
-    other
 }
