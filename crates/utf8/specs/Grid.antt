@@ -16,10 +16,11 @@ use Rattle.utf8.specs.Utf8.{needs, fresh, nextIn, stepOf}
 abbrev pub bad : ℕ
 bad = 0
 
+-- and the number of the last one
 abbrev pub last : ℕ
 last = 8
 
--- the records of the others, by number
+-- the records of the others, by number, from state 1 on
 abbrev pub records : List Utf8
 records =
     needs 0 0x80 0xBF
@@ -32,6 +33,7 @@ records =
     ∷ needs 3 0x80 0x8F
     ∷ []
 
+-- a state that has a record
 abbrev pub Live : ℕ → Type 0
 Live s = (bad < s) × (s ≤ last)
 

@@ -1,7 +1,7 @@
 // The UTF-8 validator: dropped at the first byte that the Encoding Standard's decoder calls an error.
 ghost use mathlib.Core.Path.{_≡_};
-ghost use mathlib.Core.Bool.{true};
 ghost use Prim.Native.Nat.{_<_};
+ghost use lib.Dec.{eqb};
 ghost use Rattle.context.specs.Head.{nonAsciiCount};
 ghost use Rattle.utf8.specs.Grid.{Live, cutState, last, recordAt, stateOf};
 ghost use Rattle.utf8.specs.Utf8.{closedOf, fresh, needs, nextIn, ranOf, soundB};
@@ -149,7 +149,7 @@ impl Utf8 {
 
 // Whether a stretch is ASCII. The scan says so faster than the count where it is short, but stops at an escape.
 fn is_ascii(part: &[u8]) -> bool
-    ensures { λ r. ⌜ (r ≡ true → nonAsciiCount (now (part .entry)) ≡ 0) ⌝ }
+    ensures { λ r. ⌜ r ≡ eqb (nonAsciiCount (now (part .entry))) 0 ⌝ }
 {
     match context::scan(part) {
         Scanned::End => true,

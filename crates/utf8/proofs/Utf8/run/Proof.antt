@@ -2,7 +2,7 @@
 use mathlib.Core.Path.{sym, ap, _∙_}
 use mathlib.Core.Bool.{and-false}
 use borrow.Author.Needs.{needs}
-use borrow.Author.Tests.{lt-leb}
+use borrow.Author.Tests.{lt-leb, eqb-true}
 use Rattle.laws.specs.Answer.{if-unfit}
 use Rattle.utf8.specs.declared.Ran.the-variants.{Live}
 use Rattle.utf8.specs.Utf8.{readyB, ranOf}
@@ -31,7 +31,7 @@ returns-3 c =
     let told = c .before in
     let z = told .before .before in
     let t = z .before in
-    ap Live (c .fresh .ensures) ∙ ran-ascii _ _ (t .before .before .state .ensures) (t .before .if1 .left) _ (t .if2 .left) (z .if3 .taken) (told .before .is-ascii .ensures (told .if4 .taken))
+    ap Live (c .fresh .ensures) ∙ ran-ascii _ _ (t .before .before .state .ensures) (t .before .if1 .left) _ (t .if2 .left) (z .if3 .taken) (eqb-true _ _ (sym (told .before .is-ascii .ensures) ∙ told .if4 .taken))
 
 run-requires : tie.Need-run-requires
 run-requires c κs =
