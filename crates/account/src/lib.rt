@@ -1,4 +1,5 @@
 // What is told of a file: each place with its score, or why and where in the file it dropped out.
+#![tactic(auto)]
 
 ghost use Rattle.std.specs.Prelude.{◌≡◌, ◌-◌};
 ghost use Rattle.account.specs.Account.{head_length, told_text, place_line, place_lines, count_lines, account_of, answer_of};

@@ -1,5 +1,7 @@
 // Replays the Rust's answers for the leaves and compares every value. Standard input holds them in the form that
 // oracle/README.md gives for `leaves`: 256 bytes of flags, then cases of chunks with what each chunk gives.
+#![tactic(auto)]
+
 ghost use Rattle.std.specs.Prelude.{◌+◌, ◌^◌, ◌<◌, ◌≤◌, length};
 
 use context::{Context, Scanned};

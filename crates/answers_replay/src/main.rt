@@ -1,5 +1,7 @@
 // Plays stored cases over each of the stored tables, and prints the digest of the answers: `oracle replay | oracle digest`
 // over the same bytes. Each input is put together in the file `input` first.
+#![tactic(auto)]
+
 ghost use Rattle.std.specs.Prelude.{◌≤◌, length};
 
 use reader::number;

@@ -1,4 +1,6 @@
 // Answers each stored label, its name before the answer: the Rust's scores of the same bytes (`tools/answers`).
+#![tactic(auto)]
+
 use libc::STDOUT_FILENO;
 
 fn show(name: &[u8]) {

@@ -1,4 +1,6 @@
 // A single-byte encoding of Arabic and French, as windows-1256 is: the French letters have case, the Arabic ones make words.
+#![tactic(auto)]
+
 ghost use Rattle.std.specs.Prelude.{◌≡◌, true, false, ◌*◌, ◌<◌, ◌≤◌, nat_abs, length, get_or};
 ghost use Rattle.laws.specs.Answer.{ran, BoundedBy};
 ghost use Rattle.laws.specs.Run.{alive, live, run, last_at};

@@ -1,5 +1,7 @@
 // Runs one thing over standard input and prints its answer, so that its instructions can be counted: tools/instructions
 // runs it and the Rust's counterpart (`oracle bench`) on the same bytes. The first argument names the thing.
+#![tactic(auto)]
+
 mod all;
 mod arguments;
 mod lent;

@@ -1,4 +1,6 @@
 // The Standard's Big5 decoder over a lent index, one byte.
+#![tactic(auto)]
+
 ghost use Rattle.std.specs.Prelude.{◌≡◌, true};
 ghost use Rattle.big5_decoder.specs.Standard.{is_trail, pointer_of, entry_of, pair_of, decode_of, reply_of};
 

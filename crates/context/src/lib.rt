@@ -1,5 +1,7 @@
 // What the front end knows before any candidate is fed: the saved context, the scan for the trigger, and the count of
 // non-ASCII bytes.
+#![tactic(auto)]
+
 ghost use Rattle.std.specs.Prelude.{◌≡◌, [], ◌∷◌, length, drop, ◌≤◌};
 ghost use Rattle.laws.specs.Lists.{any};
 ghost use Rattle.context.specs.Context.{bytes_of, context_of, push_of};

@@ -1,4 +1,6 @@
 // Document 01's demonstration data: the tables over which a sheet is printed.
+#![tactic(auto)]
+
 ghost use Rattle.std.specs.Prelude.{◌≡◌};
 ghost use Rattle.lengths.specs.Lengths.{big5_count, euc_kr_count, jis_count};
 ghost use Rattle.octets.specs.Octets.{between};

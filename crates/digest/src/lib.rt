@@ -1,4 +1,6 @@
 // The digest of oracle/README.md: no product exceeds 64 bits.
+#![tactic(auto)]
+
 ghost use Rattle.std.specs.Prelude.{◌≡◌};
 ghost use Rattle.digest.specs.Digest.{fresh, with_byte, with_bytes};
 

@@ -1,5 +1,7 @@
 // Drives one machine alone and prints a digest of its records, or its last record in words: what `oracle drive --digest`
 // prints for the same input (oracle/README.md has the format).
+#![tactic(auto)]
+
 mod lent;
 mod place;
 mod record;

@@ -1,7 +1,7 @@
 // A place's record of 40 bytes, as oracle/README.md lays it out: read from a case, and added to a digest.
 use arabic_french::{ArabicFrench, LatinCaseState};
 use big5::{Big5, LatinCj};
-use caseless::Caseless;
+use caseless_script::Caseless;
 use digest::Digest;
 use euckr::{EucKr, LatinKorean};
 use iso2022jp::{DecoderState, Iso2022Jp, OutputState};

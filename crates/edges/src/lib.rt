@@ -1,1 +1,2 @@
 // The edge table only: see specs/.
+#![tactic(auto)]

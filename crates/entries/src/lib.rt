@@ -1,4 +1,6 @@
 // A lent index: an entry by its pointer, and which entries are code points.
+#![tactic(auto)]
+
 ghost use Rattle.std.specs.Prelude.{◌≡◌, get_or};
 ghost use Rattle.entries.specs.Entries.{is_mapped};
 

@@ -1,4 +1,6 @@
 // EUC-KR: the scoring machine over what the Standard's decoder yields.
+#![tactic(auto)]
+
 ghost use Rattle.std.specs.Prelude.{◌≡◌, true, ◌*◌, ◌≤◌, ◌<◌, nat_abs, length};
 ghost use Rattle.laws.specs.Run.{alive, run, last_at};
 ghost use Rattle.pairs.specs.Pairs.{SmallHeld};

@@ -1,4 +1,6 @@
 // The Standard's EUC-KR decoder over a lent index, one byte.
+#![tactic(auto)]
+
 ghost use Rattle.std.specs.Prelude.{◌≡◌, true};
 ghost use Rattle.euckr_decoder.specs.Standard.{is_trail, pointer_of, pair_of, decode_of, reply_of};
 

@@ -1,6 +1,8 @@
 // Counts the entries of the Standard's three indexes, for comparison with the Standard's own figures: for each file its
 // entries, how many are mapped, and the lowest and the highest mapped pointer. Then puts every pair of a lead and a byte
 // through the Big5 and the EUC-KR decoder over their indexes, and counts what they yield.
+#![tactic(auto)]
+
 mod decoders;
 
 ghost use Rattle.std.specs.Prelude.{◌≡◌, ◌+◌, ◌^◌, ◌<◌, ◌≤◌, length};

@@ -1,4 +1,6 @@
 // The ISO-2022-JP validator: dropped at the first byte that the Encoding Standard's decoder calls an error.
+#![tactic(auto)]
+
 ghost use Rattle.std.specs.Prelude.{◌≡◌, true, ◌≤◌, length};
 ghost use Rattle.laws.specs.Run.{run, last_at, alive};
 ghost use Rattle.lengths.specs.Lengths.{jis_count};

@@ -19,9 +19,9 @@ use Rattle.iso2022jp.specs.declared.Ran.TheVariants as iso2022jp-ran
 use Rattle.arabic_french.specs.ArabicFrench as arabic_french
 use Rattle.arabic_french.specs.declared.Ran.{Ran as ArabicFrenchRan}
 use Rattle.arabic_french.specs.declared.Ran.TheVariants as arabicFrench-ran
-use Rattle.caseless.specs.Caseless as caseless
-use Rattle.caseless.specs.declared.Ran.{Ran as CaselessRan}
-use Rattle.caseless.specs.declared.Ran.TheVariants as caseless-ran
+use Rattle.caseless_script.specs.Caseless as caseless
+use Rattle.caseless_script.specs.declared.Ran.{Ran as CaselessRan}
+use Rattle.caseless_script.specs.declared.Ran.TheVariants as caseless-ran
 use Rattle.logical.specs.Logical as logical
 use Rattle.logical.specs.declared.Ran.{Ran as LogicalRan}
 use Rattle.logical.specs.declared.Ran.TheVariants as logical-ran

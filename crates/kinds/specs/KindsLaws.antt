@@ -30,11 +30,11 @@ use Rattle.iso2022jp.specs.declared.DecoderState.TheVariants as D
 use Rattle.iso2022jp.specs.declared.Iso2022Jp.{Iso2022Jp as Iso2022JpRecord}
 use Rattle.iso2022jp.specs.declared.Ran.{Ran as Iso2022JpRan}
 use Rattle.iso2022jp.specs.declared.Ran.TheVariants as iso2022jp-ran
-use Rattle.caseless.specs.Caseless as caseless
-use Rattle.caseless.specs.CaselessLaws as caseless-laws
-use Rattle.caseless.specs.declared.Caseless.{Caseless as CaselessRecord}
-use Rattle.caseless.specs.declared.Ran.{Ran as CaselessRan}
-use Rattle.caseless.specs.declared.Ran.TheVariants as caseless-ran
+use Rattle.caseless_script.specs.Caseless as caseless
+use Rattle.caseless_script.specs.CaselessLaws as caseless-laws
+use Rattle.caseless_script.specs.declared.Caseless.{Caseless as CaselessRecord}
+use Rattle.caseless_script.specs.declared.Ran.{Ran as CaselessRan}
+use Rattle.caseless_script.specs.declared.Ran.TheVariants as caseless-ran
 use Rattle.logical.specs.Logical as logical
 use Rattle.logical.specs.LogicalLaws as logical-laws
 use Rattle.logical.specs.declared.Logical.{Logical as LogicalRecord}

@@ -12,7 +12,7 @@ use Rattle.big5.specs.Scoring as big5-scoring
 use Rattle.euckr.specs.EucKrLaws as euckr-laws
 use Rattle.euckr.specs.Scoring as euckr-scoring
 use Rattle.iso2022jp.specs.Iso2022JpLaws as iso2022jp-laws
-use Rattle.caseless.specs.CaselessLaws as caseless-laws
+use Rattle.caseless_script.specs.CaselessLaws as caseless-laws
 use Rattle.logical.specs.LogicalLaws as logical-laws
 use Rattle.visual.specs.VisualLaws as visual-laws
 use Rattle.arabic_french.specs.ArabicFrenchLaws as arabicFrench-laws

@@ -23,9 +23,9 @@ use Rattle.single.specs.ClassLaws.{live_is}
 use Rattle.single.specs.Fit.{Common}
 use Rattle.single.specs.Lent.{Lent}
 use Rattle.single.specs.Words.{longest_of}
-use Rattle.caseless.specs.Caseless as caseless
-use Rattle.caseless.specs.CaselessLaws as caseless-laws
-use Rattle.caseless.specs.declared.Caseless.{Caseless as CaselessRecord}
+use Rattle.caseless_script.specs.Caseless as caseless
+use Rattle.caseless_script.specs.CaselessLaws as caseless-laws
+use Rattle.caseless_script.specs.declared.Caseless.{Caseless as CaselessRecord}
 use Rattle.logical.specs.Logical as logical
 use Rattle.logical.specs.LogicalLaws as logical-laws
 use Rattle.logical.specs.declared.Logical.{Logical as LogicalRecord}

@@ -7,7 +7,7 @@ ghost use Rattle.kinds.specs.Kinds.{place_number, fresh_of, of_utf8, of_iso2022_
 use arabic_french::ArabicFrench;
 use big5;
 use big5::Big5;
-use caseless::Caseless;
+use caseless_script::Caseless;
 use euckr;
 use euckr::EucKr;
 use iso2022jp;
@@ -90,13 +90,13 @@ fn of_big5(r: big5::Ran) -> Ran
     }
 }
 
-fn of_caseless(r: caseless::Ran) -> Ran
+fn of_caseless(r: caseless_script::Ran) -> Ran
     ensures { result ≡ of_caseless r }
 {
     match r {
-        caseless::Ran::Live(m, change) => Ran::Live(Machine::Caseless(m), change),
-        caseless::Ran::Dropped(reason, at) => Ran::Dropped(reason, at),
-        caseless::Ran::Unfit => Ran::Unfit,
+        caseless_script::Ran::Live(m, change) => Ran::Live(Machine::Caseless(m), change),
+        caseless_script::Ran::Dropped(reason, at) => Ran::Dropped(reason, at),
+        caseless_script::Ran::Unfit => Ran::Unfit,
     }
 }
 

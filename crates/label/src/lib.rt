@@ -1,4 +1,6 @@
 // What is answered to a label: its sheet over the demonstration data, or that it is too long.
+#![tactic(auto)]
+
 ghost use Rattle.std.specs.Prelude.{true, ◌≡◌};
 ghost use Rattle.detector.specs.Feed.{feed_of};
 ghost use Rattle.label.specs.Label.{state_of, answer_of};

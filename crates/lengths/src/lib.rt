@@ -1,5 +1,7 @@
 // How long each lent table is, and a stream at most: the numbers that the code knows, each once. `specs/Lengths.antt` and
 // the limit of `laws` have them for the definitions.
+#![tactic(auto)]
+
 pub const CLASSES: usize = 256;
 
 pub const MARKS: usize = 128;

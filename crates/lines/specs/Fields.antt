@@ -7,7 +7,7 @@ use Rattle.utf8.specs.declared.Utf8.{Utf8}
 use Rattle.iso2022jp.specs.declared.Iso2022Jp.{Iso2022Jp}
 use Rattle.euckr.specs.declared.EucKr.{EucKr}
 use Rattle.big5.specs.declared.Big5.{Big5}
-use Rattle.caseless.specs.declared.Caseless.{Caseless}
+use Rattle.caseless_script.specs.declared.Caseless.{Caseless}
 use Rattle.logical.specs.declared.Logical.{Logical}
 use Rattle.visual.specs.declared.Visual.{Visual}
 use Rattle.arabic_french.specs.declared.ArabicFrench.{ArabicFrench}

@@ -17,7 +17,7 @@ use Rattle.utf8.specs.declared.Utf8 as utf-8
 use Rattle.iso2022jp.specs.declared.Iso2022Jp as iso2022jp
 use Rattle.euckr.specs.declared.EucKr as euckr
 use Rattle.big5.specs.declared.Big5 as big5
-use Rattle.caseless.specs.declared.Caseless as caseless
+use Rattle.caseless_script.specs.declared.Caseless as caseless
 use Rattle.logical.specs.declared.Logical as logical
 use Rattle.visual.specs.declared.Visual as visual
 use Rattle.arabic_french.specs.declared.ArabicFrench as arabic_french

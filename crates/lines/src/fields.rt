@@ -7,7 +7,7 @@ ghost use Rattle.scribe.specs.Text.{ascii, flag_of, hex_of, decimal_of};
 use crate::terms;
 use arabic_french::ArabicFrench;
 use big5::Big5;
-use caseless::Caseless;
+use caseless_script::Caseless;
 use euckr::EucKr;
 use iso2022jp::Iso2022Jp;
 use logical::Logical;

@@ -1,5 +1,7 @@
 // Hebrew in logical order, as windows-1255 has it: bytes stand in the order in which they are read, so that punctuation follows
 // its word.
+#![tactic(auto)]
+
 ghost use Rattle.std.specs.Prelude.{◌≡◌, true, false, ◌*◌, ◌<◌, ◌≤◌, length, get_or};
 ghost use Rattle.laws.specs.Answer.{ran, BoundedBy};
 ghost use Rattle.laws.specs.Run.{alive, live, run, last_at};

@@ -1,4 +1,6 @@
 // The places' names, as documents 01 and 02 spell them, and the reasons' words.
+#![tactic(auto)]
+
 ghost use Rattle.std.specs.Prelude.{◌≡◌};
 ghost use Rattle.names.specs.Names.{place_name, reason_name};
 ghost use Rattle.scribe.specs.Page.{page, onto};

@@ -1,4 +1,6 @@
 // Tests of one byte, and of a label: the detector's smallest questions.
+#![tactic(auto)]
+
 ghost use Rattle.std.specs.Prelude.{◌≡◌};
 ghost use Rattle.octets.specs.Octets.{ascii, non_ascii, letter, upper_case, is_punctuation, is_problematic_lead, unfit_for_label, unfit_label};
 

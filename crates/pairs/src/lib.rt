@@ -1,4 +1,6 @@
 // What Big5 and EUC-KR share: the frame of the Standard's pair decoders, and the held score.
+#![tactic(auto)]
+
 ghost use Rattle.std.specs.Prelude.{◌≡◌, ◌-◌};
 ghost use Rattle.octets.specs.Octets.{letter};
 ghost use Rattle.pairs.specs.Pairs.{is_lead, is_lead_or_none, is_held_lead, reason_by, released_of, small_held_b};

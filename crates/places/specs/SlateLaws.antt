@@ -14,7 +14,7 @@ use Rattle.big5.specs.Scoring as big5
 use Rattle.euckr.specs.Scoring as euckr
 use Rattle.iso2022jp.specs.Iso2022Jp as iso2022jp
 use Rattle.arabic_french.specs.ArabicFrench as arabic_french
-use Rattle.caseless.specs.Caseless as caseless
+use Rattle.caseless_script.specs.Caseless as caseless
 use Rattle.logical.specs.Logical as logical
 use Rattle.visual.specs.Visual as visual
 use Rattle.shift_jis.specs.ShiftJis as shiftJis

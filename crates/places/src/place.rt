@@ -14,7 +14,7 @@ ghost use Rattle.places.specs.Fed.{settled_of, fed_as, decoder_ended, KnownFed};
 
 use arabic_french::ArabicFrench;
 use big5::Big5;
-use caseless::Caseless;
+use caseless_script::Caseless;
 use euckr::EucKr;
 use iso2022jp::Iso2022Jp;
 use kinds::machine::{Machine, Ran};

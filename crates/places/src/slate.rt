@@ -9,7 +9,7 @@ use crate::place;
 use crate::place::{Place, Score, Slate};
 use arabic_french::ArabicFrench;
 use big5::Big5;
-use caseless::Caseless;
+use caseless_script::Caseless;
 use euckr::EucKr;
 use iso2022jp::Iso2022Jp;
 use kinds::machine::Machine;

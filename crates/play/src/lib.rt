@@ -1,4 +1,6 @@
 // The replay format, played from a descriptor.
+#![tactic(auto)]
+
 mod input;
 mod print;
 mod turns;

@@ -20,7 +20,7 @@ use Rattle.single.specs.Pair.{adjacent_of, pair_gain_of}
 use Rattle.utf8.specs.Utf8 as utf-8
 use Rattle.iso2022jp.specs.Iso2022Jp.{is_text, ascii_of, escape_start_of, designated, state_of, escaped_to, step_in, close_in}
 use Rattle.arabic_french.specs.ArabicFrench as arabic_french
-use Rattle.caseless.specs.Caseless as caseless
+use Rattle.caseless_script.specs.Caseless as caseless
 use Rattle.tables.specs.Own.{place_count, own_of}
 use Rattle.tables.specs.Tables.{Single, Tables, tables, Sized}
 use Rattle.kinds.specs.Kinds.{step_of, close_of}

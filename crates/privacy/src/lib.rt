@@ -1,1 +1,2 @@
 // The privacy of the head only: see specs/.
+#![tactic(auto)]

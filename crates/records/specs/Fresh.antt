@@ -16,7 +16,7 @@ use Rattle.pairs.specs.declared.Held.TheVariants as H
 use Rattle.arabic_french.specs.declared.ArabicFrench.{ArabicFrench as ArabicFrenchRecord}
 use Rattle.arabic_french.specs.declared.LatinCaseState.{LatinCaseState}
 use Rattle.arabic_french.specs.declared.LatinCaseState.TheVariants as S
-use Rattle.caseless.specs.declared.Caseless.{Caseless as CaselessRecord}
+use Rattle.caseless_script.specs.declared.Caseless.{Caseless as CaselessRecord}
 use Rattle.logical.specs.declared.Logical.{Logical as LogicalRecord}
 use Rattle.visual.specs.declared.Visual.{Visual as VisualRecord}
 use Rattle.shift_jis.specs.declared.ShiftJis.{ShiftJis as ShiftJisRecord}

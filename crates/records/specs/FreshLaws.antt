@@ -17,7 +17,7 @@ use Rattle.pairs.specs.declared.Held.TheVariants as H
 use Rattle.arabic_french.specs.declared.ArabicFrench.{ArabicFrench as ArabicFrenchRecord}
 use Rattle.arabic_french.specs.declared.LatinCaseState.{LatinCaseState}
 use Rattle.arabic_french.specs.declared.LatinCaseState.TheVariants as S
-use Rattle.caseless.specs.declared.Caseless.{Caseless as CaselessRecord}
+use Rattle.caseless_script.specs.declared.Caseless.{Caseless as CaselessRecord}
 use Rattle.logical.specs.declared.Logical.{Logical as LogicalRecord}
 use Rattle.visual.specs.declared.Visual.{Visual as VisualRecord}
 use Rattle.shift_jis.specs.declared.ShiftJis.{ShiftJis as ShiftJisRecord}
@@ -29,7 +29,7 @@ use Rattle.big5.specs.Scoring as big5
 use Rattle.euckr.specs.Scoring as euckr
 use Rattle.iso2022jp.specs.Iso2022Jp as iso2022jp
 use Rattle.arabic_french.specs.ArabicFrench as arabic_french
-use Rattle.caseless.specs.Caseless as caseless
+use Rattle.caseless_script.specs.Caseless as caseless
 use Rattle.logical.specs.Logical as logical
 use Rattle.visual.specs.Visual as visual
 use Rattle.shift_jis.specs.ShiftJis as shiftJis

@@ -4,7 +4,7 @@ ghost use Rattle.records.specs.Fresh.{ascii_state, ascii_out, other_korean, othe
 
 use arabic_french::{ArabicFrench, LatinCaseState};
 use big5::{Big5, LatinCj};
-use caseless::Caseless;
+use caseless_script::Caseless;
 use euckr::{EucKr, LatinKorean};
 use iso2022jp::{DecoderState, Iso2022Jp, OutputState};
 use logical::Logical;

@@ -5,7 +5,7 @@ ghost use Rattle.kinds.specs.Sound.{sound_b};
 ghost use Rattle.kinds.specs.declared.machine.Machine.TheVariants as machine;
 
 use arabic_french::ArabicFrench;
-use caseless::Caseless;
+use caseless_script::Caseless;
 use logical::Logical;
 use visual::Visual;
 

@@ -1,4 +1,6 @@
 // Reads the replay format from standard input and prints its answers (docs/REPLAY.md).
+#![tactic(auto)]
+
 use libc::STDIN_FILENO;
 
 fn main() {

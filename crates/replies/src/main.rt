@@ -2,6 +2,8 @@
 // name and a colon, then the cases, a semicolon between two. A case is a pair of states and of how each is fed. `4x=11/10`
 // sets x of row 4 to 11 in the first and to 10 in the second, `4x=11` in both; bytes are in hexadecimal after an `x`. Then every
 // start (`starts`).
+#![tactic(auto)]
+
 mod group;
 mod lent;
 mod pen;

@@ -9,7 +9,7 @@
 // place without a score is not in the slate.
 use arabic_french::{ArabicFrench, LatinCaseState};
 use big5::{Big5, LatinCj};
-use caseless::Caseless;
+use caseless_script::Caseless;
 use context::Context;
 use euckr::{EucKr, LatinKorean};
 use iso2022jp::{DecoderState, Iso2022Jp, OutputState};

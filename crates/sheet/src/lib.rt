@@ -1,4 +1,6 @@
 // The printed sheet: document 01's twelve lines, written onto a page.
+#![tactic(auto)]
+
 ghost use Rattle.std.specs.Prelude.{◌≡◌, ◌++◌};
 ghost use Rattle.scribe.specs.Page.{page, onto};
 ghost use Rattle.scribe.specs.Text.{newline, decimal_of};

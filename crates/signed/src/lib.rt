@@ -1,4 +1,6 @@
 // Signed numbers and their bits in two's complement, and their sizes.
+#![tactic(auto)]
+
 ghost use Rattle.std.specs.Prelude.{◌≡◌, unsigned_abs};
 ghost use Rattle.std.specs.Int.{w16, w32, w64};
 ghost use Rattle.std.proofs.Common.{to_z, of_z};

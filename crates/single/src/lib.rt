@@ -1,4 +1,6 @@
 // What the four single-byte machines have in common: class, word length, pair score, adjacency, and the test of what is lent.
+#![tactic(auto)]
+
 ghost use Rattle.std.specs.Prelude.{◌≡◌, ◌*◌, ◌≤◌, unsigned_abs};
 ghost use Rattle.weights.specs.Weights.{term};
 ghost use Rattle.single.specs.Class.{alphabetic_of};

@@ -1,5 +1,7 @@
 // Prints the sheet of the label on standard input, over document 01's demonstration data, or that it is too long:
 // `answer_of` of the bytes that were read (`label/specs/Label.antt`).
+#![tactic(auto)]
+
 use libc::STDIN_FILENO;
 
 fn main() {

@@ -1,4 +1,6 @@
 // Why and where in a file a place dropped out: the line after the place's name.
+#![tactic(auto)]
+
 ghost use Rattle.std.specs.Prelude.{◌≡◌, cond, ◌++◌, eqb, length, ◌-◌, ◌<◌, ◌≤◌};
 ghost use Rattle.scribe.specs.Page.{page, onto};
 ghost use Rattle.spot.specs.Spot.{spaced_hexes, before_text, marked_text, byte_text, end_text, at_place_text, where_text, unhyphened, spot_text};

@@ -1,4 +1,6 @@
 // The state of a stream: the front and the slate.
+#![tactic(auto)]
+
 ghost use Rattle.std.specs.Prelude.{◌≡◌};
 ghost use Rattle.state.specs.Order.{state_b};
 ghost use Rattle.state.specs.State.{start_of, started_of};

@@ -2,6 +2,8 @@
 // after each escape that is one, every pair after ESC $ B, and every escape straight after another. Each is compared with a second
 // check, written another way. Prints how many there were, how many were whole, cut and none, and on how many the two differ, in
 // the reason and the place of a drop-out too.
+#![tactic(auto)]
+
 ghost use Rattle.std.specs.Prelude.{◌≡◌, ◌≤◌};
 
 use iso2022jp::{Iso2022Jp, Ran};

@@ -3,6 +3,8 @@
 // another way, by the rows and cells of the plane. Then runs short streams, cut in two and in three at every place, against the same
 // stream in one piece. Prints how many there were, how many were whole, cut and none, and on how many the two differ, in the
 // reason and the place of a drop-out too.
+#![tactic(auto)]
+
 ghost use Rattle.std.specs.Prelude.{◌≡◌, ◌≤◌, length};
 
 use lengths::JIS;

@@ -1,6 +1,8 @@
 // Runs the UTF-8 machine over every short sequence of bytes and compares it with a second check, written another way: from the
 // bytes read so far, the interval of code points that they can still become. Prints how many sequences there were, how many were
 // whole, cut and none, and on how many the two differ, in the byte at which it is none too.
+#![tactic(auto)]
+
 ghost use Rattle.std.specs.Prelude.{◌≡◌, ◌<◌, ◌≤◌};
 
 use tally::{Counts, Verdict};

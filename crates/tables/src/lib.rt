@@ -1,4 +1,6 @@
 // The seventeen lent tables: their lengths, in document 01's order.
+#![tactic(auto)]
+
 ghost use Rattle.std.specs.Prelude.{◌≡◌};
 ghost use Rattle.tables.specs.Tables.{single, single_lengths, rest_lengths, single_rules, rest_rules, tables, exact_b, sized_b};
 

@@ -1,5 +1,7 @@
 // What a sweep counts and prints: how many byte strings there were, how many were whole, cut and none, and on how many the
 // machine and the second check differ, in the reason and the place of a drop-out too.
+#![tactic(auto)]
+
 ghost use Rattle.std.specs.Prelude.{◌≡◌};
 ghost use Rattle.tally.specs.Counts.{verdict, dropped_of, is_none, same_b, nothing, up_of, counted_of};
 

@@ -1,5 +1,7 @@
 // The thin form of a feed, for a loop that keeps the front in one place: the front is lent by `&mut`, the places go in and
 // come back by value.
+#![tactic(auto)]
+
 ghost use Rattle.std.specs.Prelude.{◌≡◌};
 ghost use Rattle.tables.specs.Tables.{tables};
 ghost use Rattle.thin.specs.Thin.{stepped_of, thin_of, front_after};

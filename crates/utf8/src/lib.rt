@@ -1,4 +1,6 @@
 // The UTF-8 validator: dropped at the first byte that the Encoding Standard's decoder calls an error.
+#![tactic(auto)]
+
 ghost use Rattle.std.specs.Prelude.{◌≡◌, ◌<◌, eqb};
 ghost use Rattle.context.specs.Head.{non_ascii_count};
 ghost use Rattle.utf8.specs.Grid.{Live, cut_state, last, record_at, state_of};

@@ -1,4 +1,6 @@
 // Prints the sheet of the UTF-8 rule by state, runs of equal entries as ranges, to be compared with Unicode's table 3-7.
+#![tactic(auto)]
+
 mod sheet;
 
 use libc::STDOUT_FILENO;

@@ -1,5 +1,7 @@
 // Hebrew in visual order, as ISO-8859-8 has it: bytes stand as they are seen from the left, so that punctuation precedes its
 // word.
+#![tactic(auto)]
+
 ghost use Rattle.std.specs.Prelude.{◌≡◌, true, false, ◌*◌, ◌<◌, ◌≤◌, length, get_or};
 ghost use Rattle.laws.specs.Answer.{ran, BoundedBy};
 ghost use Rattle.laws.specs.Run.{alive, live, run, last_at};

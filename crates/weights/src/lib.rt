@@ -1,4 +1,6 @@
 // The 17 lent weights, by their indexes in document 01's order, and how one is read.
+#![tactic(auto)]
+
 ghost use Rattle.std.specs.Prelude.{◌≡◌, ◌≤◌, pos, nat_abs, get_or};
 ghost use Rattle.weights.specs.Weights.{term};
 

@@ -1,5 +1,7 @@
 // Tells of the file on standard input why and where in it each place dropped out, or the place's score, over document 01's
 // demonstration data, or that it is too long: `answer_of` of the bytes that were read (`account/specs/Account.antt`).
+#![tactic(auto)]
+
 use libc::STDIN_FILENO;
 
 fn main() {

@@ -2,10 +2,10 @@
 use mathlib.Core.Path.{sym, ◌∙◌}
 use native.Mathlib.Omega.{arith}
 use borrow.Author.Tests.{eq-eqb, ne_eqb}
-use Rattle.caseless.specs.Noted.{rough_of}
+use Rattle.caseless_script.specs.Noted.{rough_of}
 use borrow.Author.Rules.{rules}
-use Rattle.caseless.proofs.Caseless.step.Statement.{statement}
-use Rattle.caseless.proofs.Caseless.step.Tie as tie
+use Rattle.caseless_script.proofs.Caseless.step.Statement.{statement}
+use Rattle.caseless_script.proofs.Caseless.step.Tie as tie
 
 shared-slice-read-class : tie.Need-shared-slice-read-class
 shared-slice-read-class c = search rules

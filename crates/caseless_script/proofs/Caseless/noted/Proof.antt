@@ -1,7 +1,7 @@
 -- `Caseless::noted` meets its contract.
 use borrow.Author.Rules.{rules}
-use Rattle.caseless.proofs.Caseless.noted.Statement.{statement}
-use Rattle.caseless.proofs.Caseless.noted.Tie as tie
+use Rattle.caseless_script.proofs.Caseless.noted.Statement.{statement}
+use Rattle.caseless_script.proofs.Caseless.noted.Tie as tie
 
 ascii-before-requires : tie.Need-ascii-before-requires
 ascii-before-requires c κs = search rules

@@ -9,11 +9,11 @@ use Rattle.single.specs.AnswersLaws.{ran_if_fit, ran_if_unfit}
 use Rattle.single.specs.Fit.{Fit, fit_b}
 use Rattle.single.specs.FitLaws.{fit_true, marks_whole, pairs_whole, weights_whole}
 use Rattle.single.specs.Lent.{Lent, lent}
-use Rattle.caseless.specs.Caseless.{Sound, sound_b, ran_of}
-use Rattle.caseless.specs.CaselessLaws.{sound_true}
+use Rattle.caseless_script.specs.Caseless.{Sound, sound_b, ran_of}
+use Rattle.caseless_script.specs.CaselessLaws.{sound_true}
 use borrow.Author.Rules.{rules}
-use Rattle.caseless.proofs.Caseless.run.Statement.{statement}
-use Rattle.caseless.proofs.Caseless.run.Tie as tie
+use Rattle.caseless_script.proofs.Caseless.run.Statement.{statement}
+use Rattle.caseless_script.proofs.Caseless.run.Tie as tie
 
 -- what the test says
 module _ (c : tie.After-is-fit) where

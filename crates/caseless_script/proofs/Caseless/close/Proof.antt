@@ -1,10 +1,10 @@
 -- `Caseless::close` meets its contract: a run over a space.
 use mathlib.Core.Path.{◌∙◌}
 use Rattle.single.specs.AnswersLaws.{ran_space}
-use Rattle.caseless.specs.Caseless.{ran_of, closed_of}
+use Rattle.caseless_script.specs.Caseless.{ran_of, closed_of}
 use borrow.Author.Rules.{rules}
-use Rattle.caseless.proofs.Caseless.close.Statement.{statement}
-use Rattle.caseless.proofs.Caseless.close.Tie as tie
+use Rattle.caseless_script.proofs.Caseless.close.Statement.{statement}
+use Rattle.caseless_script.proofs.Caseless.close.Tie as tie
 
 slice-aggregate-run : tie.Need-slice-aggregate-run
 slice-aggregate-run c = search rules

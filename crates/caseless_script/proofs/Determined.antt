@@ -1,14 +1,14 @@
 -- Each public function's contract asks nothing and determines the reply.
 use mathlib.Core.Path.{refl}
 use Rattle.laws.specs.Determined.{Determined, same}
-use Rattle.caseless.proofs.Caseless.fresh.Kinds as fresh-kinds
-use Rattle.caseless.proofs.Caseless.fresh.Reads as fresh-reads
-use Rattle.caseless.proofs.Caseless.is_sound_for.Kinds as is-sound-for-kinds
-use Rattle.caseless.proofs.Caseless.is_sound_for.Reads as is-sound-for-reads
-use Rattle.caseless.proofs.Caseless.run.Kinds as run-kinds
-use Rattle.caseless.proofs.Caseless.run.Reads as run-reads
-use Rattle.caseless.proofs.Caseless.close.Kinds as close-kinds
-use Rattle.caseless.proofs.Caseless.close.Reads as close-reads
+use Rattle.caseless_script.proofs.Caseless.fresh.Kinds as fresh-kinds
+use Rattle.caseless_script.proofs.Caseless.fresh.Reads as fresh-reads
+use Rattle.caseless_script.proofs.Caseless.is_sound_for.Kinds as is-sound-for-kinds
+use Rattle.caseless_script.proofs.Caseless.is_sound_for.Reads as is-sound-for-reads
+use Rattle.caseless_script.proofs.Caseless.run.Kinds as run-kinds
+use Rattle.caseless_script.proofs.Caseless.run.Reads as run-reads
+use Rattle.caseless_script.proofs.Caseless.close.Kinds as close-kinds
+use Rattle.caseless_script.proofs.Caseless.close.Reads as close-reads
 
 pub fresh : Determined 0 fresh-kinds.ps fresh-kinds.r fresh-reads.Asked fresh-reads.Learnt
 fresh = record { total = λ κs a. tt; one = λ κs a z z' w w' p q. (same p q, refl) }

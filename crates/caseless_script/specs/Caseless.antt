@@ -11,11 +11,11 @@ use Rattle.single.specs.Fit.{Common, common_b}
 use Rattle.single.specs.Lent.{Lent}
 use Rattle.single.specs.Pair.{gain_of}
 use Rattle.single.specs.Words.{word_of, longest_of}
-use Rattle.caseless.specs.declared.Caseless.{Caseless}
-use Rattle.caseless.specs.declared.Ran.{Ran}
-use Rattle.caseless.specs.declared.Ran.TheVariants.{Live, Dropped, Unfit}
-use Rattle.caseless.specs.declared.Stepped.{Stepped}
-use Rattle.caseless.specs.declared.Stepped.TheVariants.{Live as SteppedLive, Dropped as SteppedDropped}
+use Rattle.caseless_script.specs.declared.Caseless.{Caseless}
+use Rattle.caseless_script.specs.declared.Ran.{Ran}
+use Rattle.caseless_script.specs.declared.Ran.TheVariants.{Live, Dropped, Unfit}
+use Rattle.caseless_script.specs.declared.Stepped.{Stepped}
+use Rattle.caseless_script.specs.declared.Stepped.TheVariants.{Live as SteppedLive, Dropped as SteppedDropped}
 
 abbrev pub fresh : Caseless
 fresh = record { prev = 0; prev_ascii = true; current_word_len = 0; longest_word = 0 }

@@ -10,8 +10,8 @@ use Rattle.single.specs.ClassLaws.{live_is, none_why}
 use Rattle.single.specs.Fit.{Fit}
 use Rattle.single.specs.FitLaws.{common_true, true_common, common_more, common_next}
 use Rattle.single.specs.Lent.{Lent}
-use Rattle.caseless.specs.Caseless.{next_of, step_of, close_of, Sound, sound_b, ran_as, ran_of, closed_of}
-use Rattle.caseless.specs.declared.Caseless.{Caseless}
+use Rattle.caseless_script.specs.Caseless.{next_of, step_of, close_of, Sound, sound_b, ran_as, ran_of, closed_of}
+use Rattle.caseless_script.specs.declared.Caseless.{Caseless}
 
 -- what the record can hold is kept, and no count grows by more than one
 pub sound_next : (t : Lent) (m : Caseless) (b k : ℕ) (n : Caseless) (g : ℤ) → Sound k m → step_of t m b ≡ live n g → Sound (k + 1) n

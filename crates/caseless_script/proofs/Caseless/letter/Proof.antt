@@ -5,10 +5,10 @@ use native.Mathlib.Omega.{arith}
 use Rattle.laws.specs.Sizes.{thru64}
 use Rattle.single.specs.Rest.{marked_is}
 use Rattle.single.specs.WordsLaws.{words_kept}
-use Rattle.caseless.specs.Noted.{pair_at}
+use Rattle.caseless_script.specs.Noted.{pair_at}
 use borrow.Author.Rules.{rules}
-use Rattle.caseless.proofs.Caseless.letter.Statement.{statement}
-use Rattle.caseless.proofs.Caseless.letter.Tie as tie
+use Rattle.caseless_script.proofs.Caseless.letter.Statement.{statement}
+use Rattle.caseless_script.proofs.Caseless.letter.Tie as tie
 
 words-after-requires : tie.Need-words-after-requires
 words-after-requires c κs = search rules

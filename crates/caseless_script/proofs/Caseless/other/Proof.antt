@@ -5,10 +5,10 @@ use native.Mathlib.Omega.{arith}
 use Rattle.laws.specs.Sizes.{thru64}
 use Rattle.single.specs.Rest.{rest_b, rest_word, marked_is}
 use Rattle.single.specs.WordsLaws.{words_kept}
-use Rattle.caseless.specs.Noted.{pair_at}
+use Rattle.caseless_script.specs.Noted.{pair_at}
 use borrow.Author.Rules.{rules}
-use Rattle.caseless.proofs.Caseless.other.Statement.{statement}
-use Rattle.caseless.proofs.Caseless.other.Tie as tie
+use Rattle.caseless_script.proofs.Caseless.other.Statement.{statement}
+use Rattle.caseless_script.proofs.Caseless.other.Tie as tie
 
 is-at-rest-requires : tie.Need-is-at-rest-requires
 is-at-rest-requires c κs = search rules

@@ -5,8 +5,8 @@ use Rattle.laws.specs.Memory.{Forgets, Quiet, forgets}
 use Rattle.single.specs.Class.{caseless_of}
 use Rattle.single.specs.HeadLaws.{quiet_at, is_ascii, not_255, no_letter}
 use Rattle.single.specs.Lent.{Lent}
-use Rattle.caseless.specs.Caseless.{fresh, step_of}
-use Rattle.caseless.specs.declared.Caseless.{Caseless}
+use Rattle.caseless_script.specs.Caseless.{fresh, step_of}
+use Rattle.caseless_script.specs.declared.Caseless.{Caseless}
 
 -- of quiet bytes the record holds the last one's class
 abbrev pub holding : ℕ → Caseless

@@ -12,8 +12,8 @@ use Rattle.single.specs.Lent.{Lent}
 use Rattle.single.specs.Pair.{ascii_pair, gain_by}
 use Rattle.single.specs.Rest.{Rests, rest_next}
 use Rattle.single.specs.Words.{word_of, longest_of}
-use Rattle.caseless.specs.Caseless.{next_of, step_of}
-use Rattle.caseless.specs.declared.Caseless.{Caseless}
+use Rattle.caseless_script.specs.Caseless.{next_of, step_of}
+use Rattle.caseless_script.specs.declared.Caseless.{Caseless}
 
 abbrev pub flagged : Bool → Caseless → Caseless
 flagged isAscii m =

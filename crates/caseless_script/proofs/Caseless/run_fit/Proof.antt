@@ -13,13 +13,13 @@ use Rattle.laws.specs.Limit.{room}
 use Rattle.weights.specs.Weights.{per_byte}
 use Rattle.single.specs.Lent.{Lent, lent}
 use Rattle.single.specs.Rest.{Rests, rest_start}
-use Rattle.caseless.specs.Noted.{noted, rough_live, rough_none, rough_rests, noted_next}
-use Rattle.caseless.specs.Caseless.{step_of, took_of, ran_as, Sound}
-use Rattle.caseless.specs.declared.Caseless.{Caseless}
-use Rattle.caseless.specs.CaselessLaws.{sound_next, sound_more}
+use Rattle.caseless_script.specs.Noted.{noted, rough_live, rough_none, rough_rests, noted_next}
+use Rattle.caseless_script.specs.Caseless.{step_of, took_of, ran_as, Sound}
+use Rattle.caseless_script.specs.declared.Caseless.{Caseless}
+use Rattle.caseless_script.specs.CaselessLaws.{sound_next, sound_more}
 use borrow.Author.Rules.{rules}
-use Rattle.caseless.proofs.Caseless.run_fit.Statement.{statement}
-use Rattle.caseless.proofs.Caseless.run_fit.Tie as tie
+use Rattle.caseless_script.proofs.Caseless.run_fit.Statement.{statement}
+use Rattle.caseless_script.proofs.Caseless.run_fit.Tie as tie
 
 abbrev invariant-loop : tie.invariant-loop
 invariant-loop part classes marks pairs weights m₀ score₀ i₀ m score i =

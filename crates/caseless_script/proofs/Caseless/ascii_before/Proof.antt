@@ -2,8 +2,8 @@
 use native.Mathlib.Omega.{arith}
 use borrow.Author.Rules.{rules}
 use borrow.Author.Tests.{eq-eqb, ne_eqb}
-use Rattle.caseless.proofs.Caseless.ascii_before.Statement.{statement}
-use Rattle.caseless.proofs.Caseless.ascii_before.Tie as tie
+use Rattle.caseless_script.proofs.Caseless.ascii_before.Statement.{statement}
+use Rattle.caseless_script.proofs.Caseless.ascii_before.Tie as tie
 
 returns : tie.Need-returns
 returns c = rw (eq-eqb _ _ c.if1.true)

@@ -7,10 +7,10 @@ use lib.Dec.{ltb}
 use borrow.Author.Tests.{le-ltb}
 use Rattle.weights.specs.Weights.{term}
 use Rattle.single.specs.Rest.{rest_gain}
-use Rattle.caseless.specs.Noted.{pair_at}
+use Rattle.caseless_script.specs.Noted.{pair_at}
 use borrow.Author.Rules.{rules}
-use Rattle.caseless.proofs.Caseless.between.Statement.{statement}
-use Rattle.caseless.proofs.Caseless.between.Tie as tie
+use Rattle.caseless_script.proofs.Caseless.between.Statement.{statement}
+use Rattle.caseless_script.proofs.Caseless.between.Tie as tie
 
 bare-requires : tie.Need-bare-requires
 bare-requires c κs = search rules

@@ -1,7 +1,7 @@
 -- `Caseless::is_ascii_pair` meets its contract.
 use borrow.Author.Rules.{rules}
-use Rattle.caseless.proofs.Caseless.is_ascii_pair.Statement.{statement}
-use Rattle.caseless.proofs.Caseless.is_ascii_pair.Tie as tie
+use Rattle.caseless_script.proofs.Caseless.is_ascii_pair.Statement.{statement}
+use Rattle.caseless_script.proofs.Caseless.is_ascii_pair.Tie as tie
 
 ascii-before-requires : tie.Need-ascii-before-requires
 ascii-before-requires c κs = search rules

@@ -1,10 +1,12 @@
 // A single-byte encoding of a script without case, as ISO-8859-6 (Arabic) and windows-874 (Thai) are.
+#![tactic(auto)]
+
 ghost use Rattle.std.specs.Prelude.{◌≡◌, true, false, ◌*◌, ◌<◌, ◌≤◌, length, get_or};
 ghost use Rattle.laws.specs.Answer.{ran, BoundedBy};
 ghost use Rattle.laws.specs.Run.{alive, live, run, last_at};
 ghost use Rattle.weights.specs.Weights.{per_byte};
-ghost use Rattle.caseless.specs.Caseless.{fresh, step_of, took_of, ran_as, ran_of, closed_of, Sound, sound_b, Bounded};
-ghost use Rattle.caseless.specs.Noted.{pair_at, noted, bare, left_by, gain_from, rough_of};
+ghost use Rattle.caseless_script.specs.Caseless.{fresh, step_of, took_of, ran_as, ran_of, closed_of, Sound, sound_b, Bounded};
+ghost use Rattle.caseless_script.specs.Noted.{pair_at, noted, bare, left_by, gain_from, rough_of};
 ghost use Rattle.laws.specs.Limit.{room};
 ghost use Rattle.single.specs.Before.{ascii_before};
 ghost use Rattle.single.specs.Class.{alphabetic_of};
