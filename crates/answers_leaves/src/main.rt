@@ -8,7 +8,7 @@ use context::{Context, Scanned};
 use libc::{STDIN_FILENO, STDOUT_FILENO};
 
 // How far the answers were read, and how many chunks there were, and were right.
-#[derive(Drop)]
+#[derive(Clone, Copy)]
 struct Progress {
     at: usize,
     left: u8,

@@ -16,7 +16,7 @@ ghost use Rattle.single.specs.Rest.{Rests};
 
 use laws::Reason;
 
-#[derive(Drop)]
+#[derive(Clone, Copy)]
 pub enum LatinCaseState {
     Space,
     Upper,
@@ -24,7 +24,7 @@ pub enum LatinCaseState {
     AllCaps,
 }
 
-#[derive(Drop)]
+#[derive(Clone, Copy)]
 pub struct ArabicFrench {
     pub prev: u8,
     pub case_state: LatinCaseState,
@@ -35,7 +35,7 @@ pub struct ArabicFrench {
 
 // The record after a part of a chunk or the close, and by how much the score changed; or class 255 was met, with the byte's
 // offset in the part; or the record is none that the kind can hold, a lent length is wrong, or the part is too long.
-#[derive(Drop)]
+#[derive(Clone, Copy)]
 pub enum Ran {
     Live(ArabicFrench, i64),
     Dropped(Reason, usize),
@@ -43,7 +43,7 @@ pub enum Ran {
 }
 
 // The record after a byte and the change of the score; or class 255 was met.
-#[derive(Drop)]
+#[derive(Clone, Copy)]
 enum Stepped {
     Live(ArabicFrench, i64),
     Dropped,

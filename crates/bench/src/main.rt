@@ -29,7 +29,7 @@ fn print(answer: u64) {
     io::write_all(STDOUT_FILENO, b"\n");
 }
 
-#[derive(Drop)]
+#[derive(Clone, Copy)]
 enum Thing {
     Count,
     Scan,

@@ -14,14 +14,14 @@ use laws::Reason;
 use pairs::{Event, Held};
 
 // The kind of what came before.
-#[derive(Drop)]
+#[derive(Clone, Copy)]
 pub enum LatinCj {
     AsciiLetter,
     Cj,
     Other,
 }
 
-#[derive(Drop)]
+#[derive(Clone, Copy)]
 pub struct Big5 {
     pub lead: u8,
     pub prev: LatinCj,
@@ -31,7 +31,7 @@ pub struct Big5 {
 
 // What a stretch gives: the record after it and by how much the score changed, or none, with the reason and the byte's offset in
 // the part; or it was not fit to be run.
-#[derive(Drop)]
+#[derive(Clone, Copy)]
 pub enum Ran {
     Live(Big5, i64),
     Dropped(Reason, usize),
@@ -39,14 +39,14 @@ pub enum Ran {
 }
 
 // What one byte gives.
-#[derive(Drop)]
+#[derive(Clone, Copy)]
 enum Stepped {
     Live(Big5, i64),
     Dropped,
 }
 
 // The weights that this machine uses.
-#[derive(Drop)]
+#[derive(Clone, Copy)]
 struct Scale {
     adjacency: i64,
     punctuation: i64,
@@ -58,7 +58,7 @@ struct Scale {
 }
 
 // What a byte makes of a record, but for its lead and its previous byte.
-#[derive(Drop)]
+#[derive(Clone, Copy)]
 struct Scored {
     prev: LatinCj,
     held: Held,

@@ -9,7 +9,7 @@ ghost use Rattle.context.specs.Head.{is_trigger, scan_of, non_ascii_count};
 ghost use Rattle.context.specs.HeadLaws.{scan_from};
 
 // The last two bytes of an all-ASCII beginning, or fewer (`BeforeNonAscii` in the Rust).
-#[derive(Drop)]
+#[derive(Clone, Copy)]
 pub struct Context {
     pub first: u8,
     pub second: u8,
@@ -145,7 +145,7 @@ pub fn count_non_ascii(buffer: &[u8]) -> u64
 }
 
 // What the scan of a chunk finds: the trigger and its offset, or the end of the chunk.
-#[derive(Drop)]
+#[derive(Clone, Copy)]
 pub enum Scanned {
     Escape(usize),
     NonAscii(usize),

@@ -13,14 +13,14 @@ use state::front::Front;
 use state::reply::Reply;
 use tables;
 
-#[derive(Drop)]
+#[derive(Clone, Copy)]
 pub struct Fed {
     pub state: State,
     pub reply: Reply,
 }
 
 // Whether a chunk is refused, and how.
-#[derive(Drop)]
+#[derive(Clone, Copy)]
 pub enum Verdict {
     Accept,
     Refuse(Reply),

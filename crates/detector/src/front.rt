@@ -8,7 +8,7 @@ use context::{Context, Scanned};
 use state::front::Front;
 
 // Where the trigger stands: in an earlier chunk, in this one at an offset, or in none so far.
-#[derive(Drop)]
+#[derive(Clone, Copy)]
 pub(crate) enum Trigger {
     Earlier,
     Escape(usize),
@@ -18,7 +18,7 @@ pub(crate) enum Trigger {
 
 // What of a chunk reaches the places: nothing; the chunk from an offset on; or so many bytes of the saved context, then the
 // whole chunk.
-#[derive(Drop)]
+#[derive(Clone, Copy)]
 pub(crate) enum Due {
     Nothing,
     Part(usize),

@@ -6,7 +6,7 @@ ghost use Rattle.digest.specs.Digest.{fresh, with_byte, with_bytes};
 
 use libc::STDOUT_FILENO;
 
-#[derive(Drop)]
+#[derive(Clone, Copy)]
 pub struct Digest {
     first: u64,
     second: u64,

@@ -80,7 +80,7 @@ pub(crate) fn single_of(place: usize) -> usize
 }
 
 // Where a place's index begins and where it ends. A place that has none gets the last, and does not read it.
-#[derive(Drop)]
+#[derive(Clone, Copy)]
 pub(crate) struct Part(pub(crate) usize, pub(crate) usize);
 
 pub(crate) fn index_of(place: usize) -> Part

@@ -8,7 +8,7 @@ use libc::STDOUT_FILENO;
 use places::place::{Place, Score};
 
 // What comes to a machine in one call: all bytes of the case, one byte and how many came before it, or the end.
-#[derive(Drop)]
+#[derive(Clone, Copy)]
 pub(crate) enum Next {
     Part,
     Byte(u8, usize),

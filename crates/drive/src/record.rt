@@ -178,7 +178,7 @@ pub(crate) fn start(f: &[u8; 41]) -> Place {
 
 // ---- to a digest
 // The fields a to e, x, y and z.
-#[derive(Drop)]
+#[derive(Clone, Copy)]
 struct Fields(u8, u8, u8, u8, u8, u64, u64, u64);
 
 fn flag(b: bool) -> u8 {

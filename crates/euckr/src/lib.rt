@@ -16,7 +16,7 @@ use laws::Reason;
 use pairs::{Event, Held};
 
 // The kind of what came before.
-#[derive(Drop)]
+#[derive(Clone, Copy)]
 pub enum LatinKorean {
     AsciiLetter,
     Hangul,
@@ -24,7 +24,7 @@ pub enum LatinKorean {
     Other,
 }
 
-#[derive(Drop)]
+#[derive(Clone, Copy)]
 pub struct EucKr {
     pub lead: u8,
     pub prev_byte: u8,
@@ -36,7 +36,7 @@ pub struct EucKr {
 
 // What a stretch gives: the record after it and by how much the score changed, or none, with the reason and the byte's offset in
 // the part; or it was not fit to be run.
-#[derive(Drop)]
+#[derive(Clone, Copy)]
 pub enum Ran {
     Live(EucKr, i64),
     Dropped(Reason, usize),
@@ -44,7 +44,7 @@ pub enum Ran {
 }
 
 // What one byte gives.
-#[derive(Drop)]
+#[derive(Clone, Copy)]
 enum Stepped {
     Live(EucKr, i64),
     Dropped,
@@ -52,7 +52,7 @@ enum Stepped {
 
 // The weights that this machine uses: `outer` of a Hangul outside the EUC range, `mixed` of a Hanja after a Hangul, `long` of
 // a long word.
-#[derive(Drop)]
+#[derive(Clone, Copy)]
 struct Scale {
     adjacency: i64,
     other: i64,
@@ -67,7 +67,7 @@ struct Scale {
 }
 
 // What a byte makes of a record, but for its lead, its previous byte and the range of that.
-#[derive(Drop)]
+#[derive(Clone, Copy)]
 struct Scored {
     prev: LatinKorean,
     word: u64,

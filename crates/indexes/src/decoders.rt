@@ -4,7 +4,7 @@ use libc::STDOUT_FILENO;
 use pairs::{Event, Reply};
 
 // What the pairs gave: the index's own entry, a special, an error of one byte or of two, or anything else.
-#[derive(Drop)]
+#[derive(Clone, Copy)]
 struct Counts {
     mapped: u64,
     special: u64,

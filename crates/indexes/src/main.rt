@@ -12,7 +12,7 @@ use libc::STDOUT_FILENO;
 use reader::fill;
 
 // What a stretch of an index holds.
-#[derive(Drop)]
+#[derive(Clone, Copy)]
 struct Tally {
     mapped: u64,
     lowest: u64,

@@ -9,7 +9,7 @@ ghost use Rattle.iso2022jp.specs.Iso2022Jp.{Sound, Passes, ascii_of, closed_of, 
 
 use laws::Reason;
 
-#[derive(Drop)]
+#[derive(Clone, Copy)]
 pub enum DecoderState {
     Ascii,
     Roman,
@@ -21,7 +21,7 @@ pub enum DecoderState {
 }
 
 // The states that an escape can set.
-#[derive(Drop)]
+#[derive(Clone, Copy)]
 pub enum OutputState {
     Ascii,
     Roman,
@@ -30,7 +30,7 @@ pub enum OutputState {
 }
 
 // Between two bytes. The lead is 0 where none is pending; output is true where nothing came out since the last escape.
-#[derive(Drop)]
+#[derive(Clone, Copy)]
 pub struct Iso2022Jp {
     pub state: DecoderState,
     pub out: OutputState,
@@ -38,14 +38,14 @@ pub struct Iso2022Jp {
     pub output: bool,
 }
 
-#[derive(Drop)]
+#[derive(Clone, Copy)]
 enum Designated {
     To(OutputState),
     Nothing,
 }
 
 // The record after a byte and the change of the score, which is 0; or why there is none.
-#[derive(Drop)]
+#[derive(Clone, Copy)]
 enum Stepped {
     Alive(Iso2022Jp, i64),
     Invalid(Reason),
@@ -53,7 +53,7 @@ enum Stepped {
 
 // What a stretch, or the end of the stream, leaves: the record; or why it drops out and at which offset in the stretch, 0 at
 // the end; or the record, the stretch or the index was not fit.
-#[derive(Drop)]
+#[derive(Clone, Copy)]
 pub enum Ran {
     Live(Iso2022Jp),
     Dropped(Reason, usize),

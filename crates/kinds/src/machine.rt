@@ -20,7 +20,7 @@ use utf8;
 use utf8::Utf8;
 use visual::Visual;
 
-#[derive(Drop)]
+#[derive(Clone, Copy)]
 pub enum Machine {
     Utf8(Utf8),
     Iso2022Jp(Iso2022Jp),
@@ -35,7 +35,7 @@ pub enum Machine {
 
 // The machine after a stretch of bytes or the end of the stream, and by how much its score changed; or why it dropped out, and
 // at which offset in the stretch; or its record, a lent length or the stretch was not fit to run.
-#[derive(Drop)]
+#[derive(Clone, Copy)]
 pub enum Ran {
     Live(Machine, i64),
     Dropped(Reason, usize),

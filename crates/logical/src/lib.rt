@@ -17,7 +17,7 @@ ghost use Rattle.single.specs.Rest.{Rests};
 
 use laws::Reason;
 
-#[derive(Drop)]
+#[derive(Clone, Copy)]
 pub struct Logical {
     pub prev: u8,
     pub prev_ascii: bool,
@@ -28,7 +28,7 @@ pub struct Logical {
 
 // The record after a part of a chunk or the close, and by how much the score changed; or class 255 was met, with the byte's
 // offset in the part; or the record is none that the kind can hold, a lent length is wrong, or the part is too long.
-#[derive(Drop)]
+#[derive(Clone, Copy)]
 pub enum Ran {
     Live(Logical, i64),
     Dropped(Reason, usize),
@@ -36,7 +36,7 @@ pub enum Ran {
 }
 
 // The record after a byte and the change of the score; or class 255 was met.
-#[derive(Drop)]
+#[derive(Clone, Copy)]
 enum Stepped {
     Live(Logical, i64),
     Dropped,

@@ -9,7 +9,7 @@ ghost use Rattle.pairs.specs.Events.{malformed_of, first_of};
 use laws::Reason;
 
 // What a decoder yields at a byte: nothing yet, one code point, two, or an error of so many bytes.
-#[derive(Drop)]
+#[derive(Clone, Copy)]
 pub enum Event {
     Pending,
     Point(u32),
@@ -18,21 +18,21 @@ pub enum Event {
 }
 
 // The decoder's lead after a byte, and what the byte yields.
-#[derive(Drop)]
+#[derive(Clone, Copy)]
 pub struct Decoded {
     pub lead: u8,
     pub event: Event,
 }
 
 // What a decoder alone answers: or its lead or its index was not fit.
-#[derive(Drop)]
+#[derive(Clone, Copy)]
 pub enum Reply {
     Byte(Decoded),
     Unfit,
 }
 
 // A score that waits for what follows (`pending_score` in the Rust).
-#[derive(Drop)]
+#[derive(Clone, Copy)]
 pub enum Held {
     Nothing,
     Score(i64),

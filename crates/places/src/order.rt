@@ -74,7 +74,7 @@ fn is_zero(n: i64) -> bool
 
 // What is asked of the record of a place by its score: that no bound excludes it, that it is fresh (which no bound excludes), or
 // nothing, since no place can have the score.
-#[derive(Drop)]
+#[derive(Clone, Copy)]
 pub(crate) enum Asked {
     Sound,
     Fresh,

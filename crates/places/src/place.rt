@@ -26,13 +26,13 @@ use visual::Visual;
 
 // None has the reason, and the place of the byte at which it happened: counted from 1 at the first byte after the head, 0 for a
 // byte of the head and for a place that takes no part.
-#[derive(Drop)]
+#[derive(Clone, Copy)]
 pub enum Score {
     None(Reason, u64),
     Live(i64),
 }
 
-#[derive(Drop)]
+#[derive(Clone, Copy)]
 pub struct Place {
     pub machine: Machine,
     pub score: Score,

@@ -5,7 +5,7 @@ ghost use Rattle.play.specs.Within.{Within, Filled};
 use reader::fill;
 
 // Where the bytes at hand begin and end in the window; `whole` until more were wanted than the input has.
-#[derive(Drop)]
+#[derive(Clone, Copy)]
 pub(crate) struct Span {
     pub(crate) from: i32,
     pub(crate) at: usize,

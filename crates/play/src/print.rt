@@ -5,7 +5,7 @@ use lines::show;
 use state::State;
 use state::reply::{Reply, StartReply};
 
-#[derive(Drop)]
+#[derive(Clone, Copy)]
 pub(crate) enum Sink {
     Out,
     Digest(Digest),

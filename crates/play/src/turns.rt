@@ -18,7 +18,7 @@ use state;
 use state::State;
 
 // What comes after a command.
-#[derive(Drop)]
+#[derive(Clone, Copy)]
 enum Next {
     Command,
     Tables,
@@ -26,7 +26,7 @@ enum Next {
     Bad,
 }
 
-#[derive(Drop)]
+#[derive(Clone, Copy)]
 struct Stand {
     state: State,
     span: Span,

@@ -10,7 +10,7 @@ pub const CHUNK: usize = 65_536;
 // The bytes of a feed before its chunk.
 pub const HEAD: usize = 6;
 
-#[derive(Drop)]
+#[derive(Clone, Copy)]
 pub enum Command {
     // Bit k says whether place k takes part.
     Start(u16),

@@ -5,7 +5,7 @@ use crate::{lent, rows, same, tally};
 use libc::STDOUT_FILENO;
 use state::State;
 
-#[derive(Drop)]
+#[derive(Clone, Copy)]
 pub(crate) struct Group {
     pairs: u64,
     // How many pairs the comparison told apart, before the feed and after it.

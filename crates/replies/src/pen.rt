@@ -4,7 +4,7 @@ ghost use Rattle.std.specs.Prelude.{◌<◌};
 use crate::rows;
 use crate::rows::Rows;
 
-#[derive(Drop)]
+#[derive(Clone, Copy)]
 pub(crate) struct Pen {
     // The name has ended.
     pub(crate) named: bool,

@@ -5,7 +5,7 @@ use crate::pen::Pen;
 use crate::rows::{NUMBERS, Rows, UNSET};
 use crate::tally;
 
-#[derive(Drop)]
+#[derive(Clone, Copy)]
 struct Stand {
     pen: Pen,
     group: Group,

@@ -6,7 +6,7 @@ use libc::STDOUT_FILENO;
 use places::place::{PLACES, Score, Slate};
 use state::{Started, State};
 
-#[derive(Drop)]
+#[derive(Clone, Copy)]
 struct Starts {
     accepted: u64,
     refused: u64,

@@ -5,7 +5,7 @@ use libc::STDOUT_FILENO;
 use state::State;
 
 // Of each: the value that all feeds gave, or 9 where two differ.
-#[derive(Drop)]
+#[derive(Clone, Copy)]
 pub(crate) struct Tally {
     feeds: u64,
     reply: u8,

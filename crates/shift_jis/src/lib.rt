@@ -11,13 +11,13 @@ ghost use Rattle.shift_jis.specs.ShiftJis.{Sound, closed_of, first_of, fresh, ho
 use laws::Reason;
 
 // Between two bytes: the lead of a pair, or 0 where none is pending.
-#[derive(Drop)]
+#[derive(Clone, Copy)]
 pub struct ShiftJis {
     pub lead: u8,
 }
 
 // The record after a byte and the change of the score, which is 0; or the byte is bad.
-#[derive(Drop)]
+#[derive(Clone, Copy)]
 enum Stepped {
     Alive(ShiftJis, i64),
     Invalid,
@@ -25,7 +25,7 @@ enum Stepped {
 
 // What a stretch, or the end of the stream, leaves: the record; or why it drops out and at which offset in the stretch, 0 at
 // the end; or the record, the stretch or the index was not fit.
-#[derive(Drop)]
+#[derive(Clone, Copy)]
 pub enum Ran {
     Live(ShiftJis),
     Dropped(Reason, usize),

@@ -15,7 +15,7 @@ pub const LATIN_LETTER: u8 = 1;
 
 pub const NO_CLASS: u8 = 255;
 
-#[derive(Drop)]
+#[derive(Clone, Copy)]
 pub struct Words {
     pub current: u64,
     pub longest: u64,

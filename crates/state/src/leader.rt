@@ -7,7 +7,7 @@ use crate::{State, hebrew};
 use places::place::{PLACES, Score, Slate};
 
 // Before any trigger; no place has a score; or the number of the place.
-#[derive(Drop)]
+#[derive(Clone, Copy)]
 pub enum Leader {
     Ascii,
     None,
@@ -15,7 +15,7 @@ pub enum Leader {
 }
 
 // The greatest score so far, and where it stands first.
-#[derive(Drop)]
+#[derive(Clone, Copy)]
 pub(crate) enum Best {
     None,
     Score(usize, i64),

@@ -3,7 +3,7 @@ ghost use Rattle.std.specs.Prelude.{◌≡◌};
 ghost use Rattle.state.specs.Reply.{number_of, reply_flag, start_number};
 
 // With each but the last: whether any non-ASCII byte has reached the places so far.
-#[derive(Drop)]
+#[derive(Clone, Copy)]
 pub enum Reply {
     Accepted(bool),
     Closed(bool),
@@ -40,7 +40,7 @@ impl Reply {
 }
 
 // To a start: it has set a bit that no place has, or not.
-#[derive(Drop)]
+#[derive(Clone, Copy)]
 pub enum StartReply {
     Accepted,
     NoSuchPlace,

@@ -132,7 +132,7 @@ fn low(n: u32) -> u8 {
 }
 
 // What is tried with a number's two low bytes.
-#[derive(Drop)]
+#[derive(Clone, Copy)]
 enum Sweep {
     Escapes,
     // the low byte, after this escape

@@ -19,7 +19,7 @@ const PAST: usize = 10716;
 
 // ---- the machine
 // What the parts so far leave: the machine, or what comes of the stream.
-#[derive(Drop)]
+#[derive(Clone, Copy)]
 enum Going {
     On(ShiftJis),
     Over(Verdict),
@@ -57,7 +57,7 @@ fn machine(stream: &[u8], index: &[u32]) -> Verdict {
 
 // ---- the second check
 // What a byte is where a character begins.
-#[derive(Drop)]
+#[derive(Clone, Copy)]
 enum Sort {
     Alone,
     Lead,
@@ -177,7 +177,7 @@ fn low(n: u32) -> u8 {
 }
 
 // What is tried with a number's two low bytes.
-#[derive(Drop)]
+#[derive(Clone, Copy)]
 enum Sweep {
     // the low byte by itself
     Single,
@@ -247,7 +247,7 @@ fn print_private(index: &mut [u32; JIS], entry: u32) {
 
 // ---- cuts
 // What was found of streams in one piece, cut in two, and cut in three.
-#[derive(Drop)]
+#[derive(Clone, Copy)]
 struct Cuts {
     one: Counts,
     two: Counts,

@@ -10,7 +10,7 @@ use utf8::{Ran, Utf8};
 
 // What the bytes of one sequence, read so far, can become: with `left` bytes to come, the code points from `low` on, one for each
 // value of those bytes. `least` is the lowest code point that may be written with so many bytes.
-#[derive(Drop)]
+#[derive(Clone, Copy)]
 struct Part {
     left: u8,
     low: u64,

@@ -19,7 +19,7 @@ pub const BROKEN: u8 = 3;
 pub const UNFIT: u8 = 4;
 
 // What comes of a byte string: one of the codes, and of a bad byte or a broken escape at which byte, from 1; else 0.
-#[derive(Drop)]
+#[derive(Clone, Copy)]
 pub struct Verdict {
     pub code: u8,
     pub at: usize,
@@ -77,7 +77,7 @@ impl Verdict {
     }
 }
 
-#[derive(Drop)]
+#[derive(Clone, Copy)]
 pub struct Counts {
     pub all: u64,
     pub whole: u64,

@@ -12,14 +12,14 @@ use state::State;
 use state::front::Front;
 use state::reply::Reply;
 
-#[derive(Drop)]
+#[derive(Clone, Copy)]
 pub struct Thin {
     pub places: Slate,
     pub reply: Reply,
 }
 
 // What a feed leaves in the caller's record, and what it gives.
-#[derive(Drop)]
+#[derive(Clone, Copy)]
 struct Stepped {
     front: Front,
     thin: Thin,

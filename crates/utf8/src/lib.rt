@@ -12,7 +12,7 @@ use context::Scanned;
 use laws::Reason;
 
 // Between two bytes: how many more the sequence needs, and the range of the next one.
-#[derive(Drop)]
+#[derive(Clone, Copy)]
 pub struct Utf8 {
     pub need: u8,
     pub lo: u8,
@@ -21,7 +21,7 @@ pub struct Utf8 {
 
 // What a stretch, or the end of the stream, leaves: the record; or why it drops out and at which offset in the stretch, 0 at
 // the end; or the record or the stretch was not fit to run.
-#[derive(Drop)]
+#[derive(Clone, Copy)]
 pub enum Ran {
     Live(Utf8),
     Dropped(Reason, usize),

@@ -8,7 +8,7 @@ use scribe::page;
 use utf8::grid::{BYTES, STATES};
 
 // Neighbouring bytes with the same entry: the first, the last, and the entry.
-#[derive(Drop)]
+#[derive(Clone, Copy)]
 struct Run {
     first: u8,
     last: u8,
