@@ -1,7 +1,7 @@
 -- Negative numbers as the code takes them apart, -(z + 1), and puts them together, -k - 1.
-use Rattle.std.specs.Prelude.{◌≡◌, ℕ, zero, suc, ◌+◌, ◌-◌, ◌^◌, ◌<◌, ◌≤◌, Bool, true, false, T, ℤ, pos, negsuc, ◌+ℤ◌, ◌-ℤ◌, neg_ℤ, FitsSigned, int_lt, unsigned_abs, refl}
-use Rattle.std.proofs.Common.{sym, ap, ◌∙◌, arith, ltb-true, le-ltb, to_z-of_z}
-use Rattle.std.proofs.Math.IntN.{pred_ℤ, +ℤ_idl, +ℤ_one, -ℤ_one}
+use Rattle.std.specs.Prelude.{◌≡◌, ℕ, zero, suc, ◌+◌, ◌-◌, ◌^◌, ◌<◌, ◌≤◌, true, false, T, ℤ, pos, negsuc, ◌+ℤ◌, ◌-ℤ◌, neg_ℤ, FitsSigned, int_lt, unsigned_abs, refl}
+use Rattle.std.proofs.Common.{ap, ◌∙◌, arith, ltb-true, le-ltb, to_z-of_z}
+use Rattle.std.proofs.Math.IntN.{+ℤ_idl, +ℤ_one, -ℤ_one}
 use Rattle.std.specs.Int.Signed.{mag, non_neg}
 use Rattle.std.specs.Int.{Width, w64}
 use mir.Val.{bits, hbits, to_z, of_z}
