@@ -3,7 +3,6 @@ use Rattle.std.specs.Prelude.{◌≡◌, refl, Bool, true, false, ◌||◌, ◌�
 use Rattle.std.proofs.Math.Bool.{or-true}
 use Rattle.std.proofs.Common.{inl, inr, arith, leb-true, le-leb, eqb-true, ne_eqb}
 use Rattle.laws.specs.Handler.{byte, Result, vars_of}
-use Rattle.laws.specs.Run.{none}
 use Rattle.laws.specs.Tests.{either, picked}
 use Rattle.laws.specs.declared.Reason.{Reason}
 use Rattle.laws.specs.declared.Reason.TheVariants.{BadByte, BadSecondByte}

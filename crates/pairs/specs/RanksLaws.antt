@@ -60,6 +60,7 @@ module _ {A : Type 0} (p q : A → Bool) (more : (x : A) → p x ≡ true → q 
 
   count_fewer : (x : A) (xs : List A) → Memᴰ x xs → p x ≡ false → q x ≡ true → count p xs < count q xs
   unfolding count
+  count_fewer x [] m f g = elim m [ ]
   count_fewer x (y ∷ ys) (Memᴰ.head e) f g =
       let f' : p y ≡ false = rw e at f in
       let g' : q y ≡ true = rw e at g in
@@ -80,6 +81,7 @@ in_numbers (suc k) i (suc n) h = Memᴰ.tail (Memᴰ.cast (omega arith) (in_numb
 
 in_those : (test : ℕ → Bool) (x : ℕ) (xs : List ℕ) → test x ≡ true → Memᴰ x xs → Memᴰ x (those test xs)
 unfolding those
+in_those test x [] t m = elim m [ ]
 in_those test x (y ∷ ys) t (Memᴰ.head e) = let t' : test y ≡ true = rw e at t in rw t' (Memᴰ.head e)
 in_those test x (y ∷ ys) t (Memᴰ.tail m) =
     let h = in_those test x ys t m in
@@ -89,11 +91,13 @@ abbrev In : List (ℕ × ℕ) → ℕ → ℕ → Type 0
 In ps x y = Memᴰ {A = ℕ × ℕ} (x, y) ps
 
 in_row : (x y : ℕ) (ys : List ℕ) → Memᴰ y ys → In (map (λ (z : ℕ). (x, z)) ys) x y
+in_row x y [] m = elim m [ ]
 in_row x y (z ∷ zs) (Memᴰ.head e) = Memᴰ.head (ap (λ (k : ℕ). (x, k)) e)
 in_row x y (z ∷ zs) (Memᴰ.tail m) = Memᴰ.tail (in_row x y zs m)
 
 in_each : (x y : ℕ) (xs ys : List ℕ) → Memᴰ x xs → Memᴰ y ys → In (each xs ys) x y
 unfolding each
+in_each x y [] ys m n = elim m [ ]
 in_each x y (z ∷ zs) ys (Memᴰ.head e) n = let r : In (map (λ (k : ℕ). (z, k)) ys) x y = rw e (in_row z y ys n) in Memᴰ.append_left (each zs ys) r
 in_each x y (z ∷ zs) ys (Memᴰ.tail m) n = Memᴰ.append_right (map (λ (k : ℕ). (z, k)) ys) (in_each x y zs ys m n)
 
