@@ -1,5 +1,5 @@
 -- Between words: the byte before is not alphabetic, so that no word ends, and no pair of two such classes is adjacent.
-use Rattle.std.specs.Prelude.{◌≡◌, ℕ, ◌+◌, Bool, true, false, not, ◌&&◌, List, ℤ, ◌+ℤ◌, ◌==◌, refl}
+use Rattle.std.specs.Prelude.{◌≡◌, ℕ, ◌+◌, Bool, true, false, not, ◌&&◌, List, ℤ, ◌+ℤ◌, ◌==◌}
 use Rattle.std.proofs.Math.Path.{sym}
 use Rattle.std.proofs.Common.{◌∙◌, arith, eqb-true}
 use Rattle.std.proofs.Math.Bool.{and-false}
