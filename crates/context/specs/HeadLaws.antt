@@ -1,6 +1,6 @@
 -- The scan gives the first byte that is the escape or non-ASCII, and nothing before it is.
-use Rattle.std.specs.Prelude.{◌≡◌, refl, Bool, true, false, cond, ◌||◌, List, [], ◌∷◌, ◌++◌, ℕ, zero, suc, ◌+◌, ◌-◌, ◌<◌, ◌≤◌, eqb, length, get_or, take, drop}
-use Rattle.std.proofs.Common.{sym, ap, ◌∙◌, append-nil, add-zero, zero-add, add-suc, suc-add, not-suc-le-zero, add-one, arith, length-take, length-drop, take-append-drop, drop-cons, get_or-drop, eq-eqb, ne_eqb, eqb-true}
+use Rattle.std.specs.Prelude.{◌≡◌, refl, Bool, true, false, cond, List, [], ◌∷◌, ◌++◌, ℕ, suc, ◌+◌, ◌-◌, ◌<◌, ◌≤◌, eqb, length, get_or, take, drop}
+use Rattle.std.proofs.Common.{sym, ap, ◌∙◌, append-nil, add-zero, zero-add, not-suc-le-zero, add-one, arith, length-take, length-drop, take-append-drop, drop-cons, get_or-drop, eq-eqb, ne_eqb, eqb-true}
 use Rattle.laws.specs.Lists.{any, count, block_is}
 use Rattle.laws.specs.Tests.{neither}
 use Rattle.octets.specs.Octets.{non_ascii}

@@ -3,7 +3,7 @@
 use mathlib.Core.Path.{sym, ◌∙◌}
 use Prim.Native.Nat.{◌+◌}
 use native.Mathlib.Omega.{arith}
-use Rattle.context.specs.HeadLaws.{scan_from, scan_start, turn_block}
+use Rattle.context.specs.HeadLaws.{scan_start, turn_block}
 use Rattle.context.proofs.scan.Goals as goal
 
 pub loop-at-preserved : goal.loop-at-preserved
