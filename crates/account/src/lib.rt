@@ -7,10 +7,9 @@ ghost use Rattle.scribe.specs.Page.{page, onto};
 
 use label;
 use label::MOST;
-use libc::STDOUT_FILENO;
 use names;
 use places::place::{PLACES, Score, Slate};
-use scribe::page;
+use scribe::{STDOUT_FILENO, page};
 use spot;
 use state::State;
 use state::front::Front;

@@ -5,7 +5,10 @@
 ghost use Rattle.std.specs.Prelude.{◌+◌, ◌^◌, ◌<◌, ◌≤◌, length};
 
 use context::{Context, Scanned};
-use libc::{STDIN_FILENO, STDOUT_FILENO};
+
+// Descriptors that each program has.
+const STDIN_FILENO: i32 = 0;
+const STDOUT_FILENO: i32 = 1;
 
 // How far the answers were read, and how many chunks there were, and were right.
 #[derive(Clone, Copy)]

@@ -4,8 +4,8 @@ ghost use Rattle.std.specs.Prelude.{◌<◌, ◌≤◌};
 use crate::{arguments, lent};
 use detector::feed;
 use lengths::{BIG5, CLASSES, EUC_KR, EXTRAS, JIS, MARKS, PAIRS, WEIGHTS};
-use libc::{STDERR_FILENO, STDOUT_FILENO};
 use lines::show;
+use scribe::{STDERR_FILENO, STDOUT_FILENO};
 use state;
 use state::State;
 

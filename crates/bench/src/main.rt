@@ -7,7 +7,7 @@ mod arguments;
 mod lent;
 
 use context::Scanned;
-use libc::{STDERR_FILENO, STDIN_FILENO, STDOUT_FILENO};
+use scribe::{STDERR_FILENO, STDIN_FILENO, STDOUT_FILENO};
 
 fn scanned_to(chunk: &[u8]) -> u64 {
     match context::scan(chunk) {

@@ -4,7 +4,8 @@
 ghost use Rattle.std.specs.Prelude.{◌≡◌};
 ghost use Rattle.digest.specs.Digest.{fresh, with_byte, with_bytes};
 
-use libc::STDOUT_FILENO;
+// A descriptor that each program has.
+const STDOUT_FILENO: i32 = 1;
 
 #[derive(Clone, Copy)]
 pub struct Digest {

@@ -3,8 +3,8 @@ ghost use Rattle.std.specs.Prelude.{◌≡◌, ◌+◌, ◌<◌, ◌≤◌, leng
 ghost use Rattle.lengths.specs.Lengths.{big5_count, euc_kr_count, jis_count};
 
 use lengths::{BIG5, CLASSES, EUC_KR, EXTRAS, JIS, MARKS, PAIRS, WEIGHTS};
-use libc::STDIN_FILENO;
 use reader::fill;
+use scribe::STDIN_FILENO;
 
 // The tables of the four single-byte places, from place 4 on.
 pub(crate) type Classes = [[u8; CLASSES]; 4];

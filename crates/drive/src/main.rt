@@ -9,12 +9,12 @@ mod record;
 use digest::Digest;
 use lengths::{CLASSES, EXTRAS, MARKS, PAIRS, WEIGHTS};
 use lent::{Classes, INDEXES, Marks, Pairs};
-use libc::{STDIN_FILENO, STDOUT_FILENO};
 use lines::show;
 use place::Next;
 use places::place::Place;
 use reader::command::Command;
 use reader::{command, number};
+use scribe::{STDIN_FILENO, STDOUT_FILENO};
 
 // A stream byte by byte: the digest with the record after each, and after the close if there is one.
 fn each(

@@ -4,8 +4,8 @@
 // gets hang on them. So each kind's function is called twice here, and each machine's loop is compiled by itself.
 use kinds::machine::{Machine, Ran};
 use laws::Reason;
-use libc::STDOUT_FILENO;
 use places::place::{Place, Score};
+use scribe::STDOUT_FILENO;
 
 // What comes to a machine in one call: all bytes of the case, one byte and how many came before it, or the end.
 #[derive(Clone, Copy)]

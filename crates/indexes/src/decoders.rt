@@ -1,6 +1,6 @@
 // Every pair of bytes through a decoder, compared with the index: where a lead is pending, the entries stand in the order of
 // the leads and, for a lead, of its trails.
-use libc::STDOUT_FILENO;
+use crate::STDOUT_FILENO;
 use pairs::{Event, Reply};
 
 // What the pairs gave: the index's own entry, a special, an error of one byte or of two, or anything else.

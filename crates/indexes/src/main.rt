@@ -8,8 +8,10 @@ mod decoders;
 ghost use Rattle.std.specs.Prelude.{◌≡◌, ◌+◌, ◌^◌, ◌<◌, ◌≤◌, length};
 
 use iso2022jp::Iso2022Jp;
-use libc::STDOUT_FILENO;
 use reader::fill;
+
+// A descriptor that each program has.
+pub(crate) const STDOUT_FILENO: i32 = 1;
 
 // What a stretch of an index holds.
 #[derive(Clone, Copy)]

@@ -6,8 +6,7 @@ ghost use Rattle.names.specs.Names.{place_name, reason_name};
 ghost use Rattle.scribe.specs.Page.{page, onto};
 
 use laws::Reason;
-use libc::STDOUT_FILENO;
-use scribe::page;
+use scribe::{STDOUT_FILENO, page};
 
 // The name of a place by its number; the last one's for any above.
 pub fn place(out: &mut [u8], at: usize, k: usize) -> usize

@@ -1,7 +1,7 @@
 // Answers go to standard output, or into a digest.
 use digest::Digest;
-use libc::STDOUT_FILENO;
 use lines::show;
+use scribe::STDOUT_FILENO;
 use state::State;
 use state::reply::{Reply, StartReply};
 

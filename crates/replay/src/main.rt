@@ -1,7 +1,8 @@
 // Reads the replay format from standard input and prints its answers (docs/REPLAY.md).
 #![tactic(auto)]
 
-use libc::STDIN_FILENO;
+// A descriptor that each program has.
+const STDIN_FILENO: i32 = 0;
 
 fn main() {
     play::play(STDIN_FILENO, true);

@@ -2,7 +2,7 @@
 use crate::rows::Rows;
 use crate::tally::Tally;
 use crate::{lent, rows, same, tally};
-use libc::STDOUT_FILENO;
+use scribe::STDOUT_FILENO;
 use state::State;
 
 #[derive(Clone, Copy)]

@@ -13,9 +13,9 @@ mod script;
 mod starts;
 mod tally;
 
-use libc::{STDIN_FILENO, STDOUT_FILENO};
 use lines::show;
 use rows::{FEED, NUMBERS, UNSET};
+use scribe::{STDIN_FILENO, STDOUT_FILENO};
 use state::State;
 
 fn print_state(state: State) {

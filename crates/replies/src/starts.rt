@@ -2,8 +2,8 @@
 // to the first. The 512 that are accepted and as many that are refused are fed a closing chunk, which both take.
 use crate::rows::{FEED, NUMBERS, Rows, UNSET};
 use crate::{lent, rows, tally};
-use libc::STDOUT_FILENO;
 use places::place::{PLACES, Score, Slate};
+use scribe::STDOUT_FILENO;
 use state::{Started, State};
 
 #[derive(Clone, Copy)]

@@ -1,7 +1,7 @@
 // What the feeds of one group had in common.
 use crate::same;
 use detector::feed::Fed;
-use libc::STDOUT_FILENO;
+use scribe::STDOUT_FILENO;
 use state::State;
 
 // Of each: the value that all feeds gave, or 9 where two differ.

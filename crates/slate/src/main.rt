@@ -2,7 +2,7 @@
 // `answer_of` of the bytes that were read (`label/specs/Label.antt`).
 #![tactic(auto)]
 
-use libc::STDIN_FILENO;
+use scribe::STDIN_FILENO;
 
 fn main() {
     let mut bytes = [0u8; label::READ];

@@ -6,7 +6,9 @@ ghost use Rattle.std.specs.Prelude.{◌≡◌};
 ghost use Rattle.tally.specs.Counts.{verdict, dropped_of, is_none, same_b, nothing, up_of, counted_of};
 
 use laws::Reason;
-use libc::STDOUT_FILENO;
+
+// A descriptor that each program has.
+const STDOUT_FILENO: i32 = 1;
 
 pub const WHOLE: u8 = 0;
 

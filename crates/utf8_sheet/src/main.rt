@@ -3,7 +3,7 @@
 
 mod sheet;
 
-use libc::STDOUT_FILENO;
+use scribe::STDOUT_FILENO;
 use utf8::grid::GRID;
 
 // Room for the text, which has 353 bytes.

@@ -2,7 +2,7 @@
 // demonstration data, or that it is too long: `answer_of` of the bytes that were read (`account/specs/Account.antt`).
 #![tactic(auto)]
 
-use libc::STDIN_FILENO;
+use scribe::STDIN_FILENO;
 
 fn main() {
     let mut bytes = [0u8; label::READ];
