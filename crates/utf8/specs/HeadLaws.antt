@@ -1,5 +1,5 @@
 -- What UTF-8 forgets: ASCII leaves the record fresh.
-use Rattle.std.specs.Prelude.{refl, ℕ}
+use Rattle.std.specs.Prelude.{refl}
 use Rattle.std.proofs.Common.{sym, ltb-true}
 use Rattle.laws.specs.Memory.{Forgets, Quiet, forgets}
 use Rattle.octets.specs.Octets.{ascii}

@@ -1,6 +1,6 @@
 -- The UTF-8 machine lives through exactly the bytes that the table of well-formed sequences makes, and is whole at the close
 -- exactly if nothing of them is cut.
-use Rattle.std.specs.Prelude.{◌≡◌, refl, Bool, ◌&&◌, ◌||◌, List, [], ◌∷◌, ◌++◌, ℕ, suc, ◌+◌, ◌-◌, ◌≤◌, T, eqb, ltb, leb, ℤ, pos, negsuc, length}
+use Rattle.std.specs.Prelude.{◌≡◌, refl, Bool, ◌&&◌, ◌||◌, List, [], ◌∷◌, ◌++◌, ℕ, suc, ◌-◌, ◌≤◌, T, eqb, ltb, leb, ℤ, pos, negsuc, length}
 use Rattle.std.proofs.Math.Path.{sym, ap}
 use Rattle.std.proofs.Common.{subst, ◌∙◌, append_assoc, append-nil, inl, inr, arith, eqb→eq, leb→le, ltb-true, ltb-false}
 use Rattle.std.proofs.Math.Bool.{true, false}
@@ -14,7 +14,7 @@ use Rattle.laws.specs.Table.{and_left, and_right, every, nothing, within}
 use Rattle.octets.specs.Octets.{between}
 use Rattle.octets.specs.BetweenLaws.{between_low, between_high}
 use Rattle.utf8.specs.declared.Utf8.{Utf8}
-use Rattle.utf8.specs.WellFormed.{Range, ◌to◌, Row, table, Fits, FitsOne, WellFormed, Text, empty, then, Cut, Streams}
+use Rattle.utf8.specs.WellFormed.{Range, Row, table, Fits, FitsOne, WellFormed, Text, empty, then, Cut, Streams}
 use Rattle.utf8.specs.Utf8.{needs, fresh, lead_of, step_of, close_of}
 use Rattle.utf8.specs.Standard.{initial, handler}
 use Rattle.utf8.specs.Agreement.{reason_of, outcome_of}
