@@ -1,9 +1,8 @@
 -- One way through the code of a command after the other.
-use Rattle.std.specs.Prelude.{◌≡◌, refl, List, ℕ, ◌+◌, ◌-◌, ◌≤◌, ◌<◌, eqb, length, get_or}
-use borrow.Author.Tests.{lt-ltb, le-ltb, eq-eqb, ne_eqb}
+use Rattle.std.specs.Prelude.{◌≡◌, List, ℕ, ◌+◌, ◌-◌, ◌≤◌, ◌<◌, eqb, length, get_or}
+use borrow.Author.Tests.{lt-ltb, le-ltb, ne_eqb}
 use Rattle.reader.specs.Command.{start_read, chunk_of, feed_read, read_of}
 use Rattle.reader.specs.Little.{little_at}
-use Rattle.reader.specs.declared.command.Command.{Command}
 use Rattle.reader.specs.declared.command.Command.TheVariants.{Feed, Show, Lend, More, Bad}
 
 module _ (xs : List ℕ) where
