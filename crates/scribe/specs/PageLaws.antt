@@ -1,6 +1,6 @@
 -- Texts join; a text that finds room stands on the page as it is.
 use Rattle.std.specs.Prelude.{◌≡◌, refl, cond, List, [], ◌∷◌, ◌++◌, ℕ, suc, ◌+◌, ◌≤◌, ◌<◌, length, get_or, take, drop, set, ltb}
-use Rattle.std.proofs.Common.{ap, ◌∙◌, add-zero, add-one, arith, length-set, drop_of_length-le, drop-cons, lt-ltb, le-ltb, ltb-true}
+use Rattle.std.proofs.Common.{ap, ◌∙◌, add-one, arith, length-set, drop_of_length-le, drop-cons, lt-ltb, le-ltb, ltb-true}
 use Rattle.std.proofs.lemmas.List.Edits.{sets, sets-eq}
 use Rattle.std.proofs.Math.Seq.{set_out}
 use Rattle.laws.specs.Tests.{either}

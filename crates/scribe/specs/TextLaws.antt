@@ -1,11 +1,11 @@
 -- The fewest digits that hold a number are its text; the sign.
 use Rattle.std.proofs.Math.Path.{◌≡◌}
-use Rattle.std.specs.Prelude.{refl, true, false, List, [], ◌∷◌, ◌++◌, ℕ, zero, suc, ◌-◌, ◌/◌, ◌%◌, ◌^◌, ◌≤◌, ◌<◌, ℤ, pos, negsuc, nat_abs}
+use Rattle.std.specs.Prelude.{true, false, ◌∷◌, ℕ, zero, suc, ◌-◌, ◌/◌, ◌%◌, ◌^◌, ◌≤◌, ◌<◌, ℤ, pos, negsuc, nat_abs}
 use Rattle.std.proofs.Common.{subst, arith}
 use Rattle.std.proofs.Math.Nat.{pow-succ', pow-le-pow_right}
 use Rattle.std.specs.Int.Signed.{lt_z}
 use borrow.Author.Tests.{lt-ltb, le-ltb, ltb-true}
-use Rattle.io.specs.Digits.{hex_digit_ascii, last_digits, IsDigitCount}
+use Rattle.io.specs.Digits.{last_digits, IsDigitCount}
 use Rattle.scribe.specs.Text.{decimal_in, decimal_of, signed_of}
 
 some : (m : ℕ) → 1 ≤ 10 ^ m

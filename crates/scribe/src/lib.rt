@@ -5,5 +5,7 @@ pub mod page;
 
 // The descriptors that each program has.
 pub const STDIN_FILENO: i32 = 0;
+
 pub const STDOUT_FILENO: i32 = 1;
+
 pub const STDERR_FILENO: i32 = 2;
