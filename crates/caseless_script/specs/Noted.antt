@@ -1,5 +1,5 @@
 -- The code's own step, which leaves the flag of its byte to be found from the byte itself. No public contract cites it.
-use Rattle.std.specs.Prelude.{◌≡◌, refl, Bool, true, false, cond, List, ℕ, ◌+◌, eqb, ℤ, pos, get_or}
+use Rattle.std.specs.Prelude.{◌≡◌, refl, Bool, true, false, cond, List, ℕ, ◌+◌, eqb, ℤ, get_or}
 use Rattle.std.proofs.Common.{sym}
 use Rattle.laws.specs.Run.{Outcome, live, none}
 use Rattle.laws.specs.declared.Reason.{Reason}
@@ -9,7 +9,7 @@ use Rattle.single.specs.Before.{ascii_before, ascii_pair_at, ascii_next}
 use Rattle.single.specs.Class.{class_of, caseless_of, alphabetic, unless255}
 use Rattle.single.specs.ClassLaws.{live_is, none_is}
 use Rattle.single.specs.Lent.{Lent}
-use Rattle.single.specs.Pair.{ascii_pair, gain_by}
+use Rattle.single.specs.Pair.{gain_by}
 use Rattle.single.specs.Rest.{Rests, rest_next}
 use Rattle.single.specs.Words.{word_of, longest_of}
 use Rattle.caseless_script.specs.Caseless.{next_of, step_of}
