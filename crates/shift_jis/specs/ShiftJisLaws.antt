@@ -9,7 +9,7 @@ use Rattle.laws.specs.declared.Reason.{Reason}
 use Rattle.laws.specs.declared.Reason.TheVariants.{BadByte, CutAtClose}
 use Rattle.laws.specs.Run.{Outcome, live, none, run, last_at, alive, WhenNone}
 use Rattle.laws.specs.Still.{Ends, run_ends}
-use Rattle.laws.specs.Tests.{both, either}
+use Rattle.laws.specs.Tests.{either}
 use Rattle.octets.specs.Octets.{between}
 use Rattle.octets.specs.BetweenLaws.{inside, below, above}
 use Rattle.shift_jis.specs.Standard.{is_lead, is_trail, pointer}
