@@ -1,9 +1,8 @@
 -- The loop of a run, said once for every machine: what holds at its head after i bytes, and what a turn and the end make of it.
-use Rattle.std.specs.Prelude.{◌≡◌, refl, List, ℕ, ◌+◌, ◌-◌, ◌*◌, ◌^◌, ◌<◌, ◌≤◌, ℤ, pos, nat_abs, ◌+ℤ◌, length, get_or, take, drop}
-use Rattle.std.proofs.Common.{sym, ap, ◌∙◌, add-zero, mul-le-mul_left, arith, length-take, length-drop, SFits, to_z, of_z}
+use Rattle.std.specs.Prelude.{◌≡◌, refl, List, ℕ, ◌+◌, ◌*◌, ◌^◌, ◌<◌, ◌≤◌, ℤ, pos, nat_abs, ◌+ℤ◌, length, get_or, drop}
+use Rattle.std.proofs.Common.{sym, ap, ◌∙◌, add-zero, mul-le-mul_left, arith, length-drop, SFits, to_z, of_z}
 use Rattle.std.specs.Int.{w64}
-use Rattle.laws.specs.Lists.{block_is}
-use Rattle.laws.specs.Run.{Out, none, live, alive, run, ends_at, last_at, run_append, run_done, turn_live, turn_none, ends_append, ends_live, ends_turn_live, ends_turn_none}
+use Rattle.laws.specs.Run.{Out, live, alive, run, ends_at, run_done, turn_live, ends_turn_live}
 use Rattle.laws.specs.Sizes.{abs_add, fits64, thru, thru64}
 
 -- P n is what holds of a record after n bytes, and a byte changes the score by at most g: after i bytes of xs, from a record of
@@ -28,13 +27,6 @@ module _ {D S : Type 0} {step : S → ℕ → Out D S} {P : ℕ → S → Type 0
       going_small = let e : i ≡ length xs = omega (arith, going.within) in rw e at going.small
 
     module _ (h : i < length xs) where
-      pub going_none : {d : D} → step m (get_or xs i 0) ≡ none d → none d ≡ run step (alive start) xs
-      going_none {d} e = turn_none step m s xs i h d e ∙ going.rest
-
-      -- and that byte is the last one that the run takes
-      pub going_at : {d : D} → step m (get_or xs i 0) ≡ none d → i ≡ last_at step (alive start) xs
-      going_at {d} e = omega (arith, ends_turn_none step m s xs i h d e, going.ends)
-
       module _ {next : S} {k : ℤ} (gave : step m (get_or xs i 0) ≡ live next k) (least : nat_abs k ≤ g) where
         sum_small : nat_abs (s +ℤ k) ≤ g * (i + 1)
         sum_small = omega (arith, abs_add s k, going.small)
@@ -62,18 +54,3 @@ module _ {D S : Type 0} {step : S → ℕ → Out D S} {P : ℕ → S → Type 0
 -- a machine whose step changes no score
 pub going_still : {D S : Type 0} {step : S → ℕ → Out D S} {P : ℕ → S → Type 0} {n : ℕ} {start : S} {xs : List ℕ} {i : ℕ} {m : S} → Going step P 0 n start xs i m (pos 0) → i < length xs → {next : S} {k : ℤ} → step m (get_or xs i 0) ≡ live next k → P (n + i + 1) next × (k ≡ pos 0) → Going step P 0 n start xs (i + 1) next (pos 0)
 going_still going h {next} e p = going_turn going h (e ∙ ap (live next) p.1) (omega arith) p.0
-
--- and several bytes at once, which it takes all
-module _ {D S : Type 0} {step : S → ℕ → Out D S} {P : ℕ → S → Type 0} {n : ℕ} {start : S} {xs : List ℕ} {i : ℕ} {m : S} (going : Going step P 0 n start xs i m (pos 0)) (e : ℕ) (least : i ≤ e) (most : e ≤ length xs) {next : S} (gave : run step (alive m) (take (e - i) (drop i xs)) ≡ alive next) where
-  block_rest : run step (alive m) (drop i xs) ≡ run step (alive next) (drop e xs)
-  block_rest =
-      ap (run step (alive m)) (sym (block_is xs i e least)) ∙ (run_append step (alive m) (take (e - i) (drop i xs)) (drop e xs) ∙ ap (λ (o : Out D S). run step o (drop e xs)) gave)
-
-  block_ends : ends_at step (alive m) (drop i xs) ≡ (e - i) + ends_at step (alive next) (drop e xs)
-  block_ends =
-      let k : length (take (e - i) (drop i xs)) ≡ e - i = simp (length-take, length-drop) (omega arith) in
-      ap (ends_at step (alive m)) (sym (block_is xs i e least)) ∙ (ends_append step (alive m) (take (e - i) (drop i xs)) (drop e xs) ∙ rw (gave, ends_live step (alive m) (take (e - i) (drop i xs)) next (pos 0) gave, k))
-
-  pub going_block : P (n + e) next → Going step P 0 n start xs e next (pos 0)
-  going_block p =
-      record { within = most; sound = p; small = omega arith; rest = sym block_rest ∙ going.rest; ends = omega (arith, block_ends, going.ends) }

@@ -1,11 +1,11 @@
 -- What a machine forgets. Where it neither drops out nor scores at a byte that passes a test, and two such bytes leave nothing of
 -- what it knew before them, a stretch of them leaves what its last two leave.
-use Rattle.std.specs.Prelude.{◌≡◌, Bool, true, false, not, ◌&&◌, ℕ, zero, suc, ◌-◌, ◌≤◌, ℤ, pos, length, drop}
-use Rattle.std.proofs.Math.Path.{refl, sym, ap}
-use Rattle.std.proofs.Common.{◌∙◌, not-suc-le-zero, arith, length-drop}
+use Rattle.std.specs.Prelude.{◌≡◌, Bool, true, false, not, ◌&&◌, ℕ, zero, suc, ◌≤◌, ℤ, pos, length, drop}
+use Rattle.std.proofs.Math.Path.{refl, ap}
+use Rattle.std.proofs.Common.{not-suc-le-zero, arith, length-drop}
 use mathlib.Core.List.{List, [], ◌∷◌}
 use Rattle.std.proofs.Math.IntN.{+ℤ_idr}
-use Rattle.laws.specs.Lists.{any, last, last_append, last_short}
+use Rattle.laws.specs.Lists.{any, last}
 use Rattle.laws.specs.Run.{Out, live, plus, with_byte, run}
 use Rattle.laws.specs.Tests.{both, neither}
 
@@ -26,7 +26,7 @@ pub record Quiet {D S K : Type 0} (q : ℕ → Bool) (step : S → ℕ → Out D
   pub steps : (k : K) (b : ℕ) → q b ≡ true → step (holding k) b ≡ live (holding (seen k b)) (pos 0)
   pub forgotten : (k l : K) (a b : ℕ) → seen (seen k a) b ≡ seen (seen l a) b
 
-all_drop : (q : ℕ → Bool) (n : ℕ) (bs : List ℕ) → all q bs ≡ true → all q (drop n bs) ≡ true
+pub all_drop : (q : ℕ → Bool) (n : ℕ) (bs : List ℕ) → all q bs ≡ true → all q (drop n bs) ≡ true
 unfolding all
 all_drop q zero bs e = e
 all_drop q (suc n) [] e = e
@@ -51,7 +51,7 @@ all_neither p r (b ∷ bs) e f =
     let h = neither (r b) (any r bs) f in
     rw (g.0, h.0) (all_neither p r bs g.1 h.1)
 
-two_left : (bs : List ℕ) → 2 ≤ length bs → 2 ≤ length (last 2 bs)
+pub two_left : (bs : List ℕ) → 2 ≤ length bs → 2 ≤ length (last 2 bs)
 unfolding last
 two_left bs h = rw length-drop (omega arith)
 
@@ -67,25 +67,8 @@ module _ {D S K : Type 0} {q : ℕ → Bool} {step : S → ℕ → Out D S} {hol
   quiet_run k s [] e = refl
   quiet_run k s (b ∷ bs) e = let h = both (q b) (all q bs) e in rw (quiet.steps k b h.0, +ℤ_idr) (quiet_run (seen k b) s bs h.1)
 
-  seen_same : (k l : K) (bs : List ℕ) → 2 ≤ length bs → seen_after k bs ≡ seen_after l bs
+  pub seen_same : (k l : K) (bs : List ℕ) → 2 ≤ length bs → seen_after k bs ≡ seen_after l bs
   unfolding seen_after
   seen_same k l [] h = absurd (not-suc-le-zero h)
   seen_same k l (a ∷ []) h = absurd (omega (arith, h))
   seen_same k l (a ∷ b ∷ bs) h = ap (λ (x : K). seen_after x bs) (quiet.forgotten k l a b)
-
-  seen_last : (k : K) (bs : List ℕ) → seen_after k bs ≡ seen_after k (last 2 bs)
-  unfolding seen_after
-  seen_last k [] = ap (seen_after k) (sym (last_short 2 [] (omega arith)))
-  seen_last k (a ∷ []) = ap (seen_after k) (sym (last_short 2 (a ∷ []) (omega arith)))
-  seen_last k (a ∷ b ∷ []) = ap (seen_after k) (sym (last_short 2 (a ∷ b ∷ []) (omega arith)))
-  seen_last k (a ∷ b ∷ c ∷ bs) =
-      let r = b ∷ c ∷ bs in
-      seen_last (seen k a) (b ∷ c ∷ bs) ∙ (seen_same (seen k a) k (last 2 r) (two_left r (omega arith)) ∙ ap (seen_after k) (sym (last_append 2 (a ∷ []) r (omega arith))))
-
-  pub forgets : (k : K) → Forgets q step (holding k)
-  unfolding last
-  forgets k =
-      record {
-        last_two = λ s bs e. quiet_run k s bs e ∙ (ap (λ (l : K). live (holding l) s) (seen_last k bs) ∙ sym (quiet_run k s (last 2 bs) (all_drop q (length bs - 2) bs e)));
-        lives = λ bs e. (holding (seen_after k bs), λ s. quiet_run k s bs e);
-      }

@@ -114,17 +114,13 @@ module _ {D S : Type 0} (step : S → ℕ → Out D S) where
   run_turn o xs i h = rw (drop-cons xs i 0 h, add-one)
 
   module _ (m : S) (s : ℤ) (xs : List ℕ) (i : ℕ) (h : i < length xs) where
-    run_at : run step (live m s) (drop i xs) ≡ run step (plus s (step m (get_or xs i 0))) (drop (i + 1) xs)
+    pub run_at : run step (live m s) (drop i xs) ≡ run step (plus s (step m (get_or xs i 0))) (drop (i + 1) xs)
     unfolding with_byte
     run_at = run_turn (live m s) xs i h
 
     pub turn_live : (n : S) (g : ℤ) → step m (get_or xs i 0) ≡ live n g → run step (live n (s +ℤ g)) (drop (i + 1) xs) ≡ run step (live m s) (drop i xs)
     unfolding plus
     turn_live n g e = sym (run_at ∙ ap (λ (o : Out D S). run step (plus s o) (drop (i + 1) xs)) e)
-
-    pub turn_none : (d : D) → step m (get_or xs i 0) ≡ none d → none d ≡ run step (live m s) (drop i xs)
-    unfolding plus
-    turn_none d e = sym (run_at ∙ ap (λ (o : Out D S). run step (plus s o) (drop (i + 1) xs)) e ∙ run_none d (drop (i + 1) xs))
 
 -- ---- where a run ends
 module _ {D S : Type 0} (step : S → ℕ → Out D S) where
@@ -166,17 +162,6 @@ module _ {D S : Type 0} (step : S → ℕ → Out D S) where
   ends_most o [] = omega arith
   ends_most o (x ∷ xs) = omega (arith, takes_one o, ends_most (with_byte step o x) xs)
 
-  live_takes : (o : Out D S) (xs : List ℕ) (n : S) (t : ℤ) → run step o xs ≡ live n t → takes o ≡ 1
-  unfolding takes
-  live_takes (none d) xs n t e = let q : none d ≡ live n t = sym (run_none step d xs) ∙ e in let z : ◌≡◌ {A = ℕ} 0 1 = cc in omega arith
-  live_takes (live m s) xs n t e = refl
-
-  -- what lives takes all
-  pub ends_live : (o : Out D S) (xs : List ℕ) (n : S) (t : ℤ) → run step o xs ≡ live n t → ends_at step o xs ≡ length xs
-  unfolding ends_at run
-  ends_live o [] n t e = refl
-  ends_live o (x ∷ xs) n t e = omega (arith, live_takes o (x ∷ xs) n t e, ends_live (with_byte step o x) xs n t e)
-
   -- what drops out from a live machine has taken a byte
   pub ends_some : (m : S) (s : ℤ) (xs : List ℕ) (d : D) → run step (live m s) xs ≡ none d → 1 ≤ ends_at step (live m s) xs
   unfolding run ends_at takes
@@ -185,18 +170,13 @@ module _ {D S : Type 0} (step : S → ℕ → Out D S) where
 
   -- ---- for a loop: one turn at i
   module _ (m : S) (s : ℤ) (xs : List ℕ) (i : ℕ) (h : i < length xs) where
-    ends_turn : ends_at step (live m s) (drop i xs) ≡ 1 + ends_at step (plus s (step m (get_or xs i 0))) (drop (i + 1) xs)
+    pub ends_turn : ends_at step (live m s) (drop i xs) ≡ 1 + ends_at step (plus s (step m (get_or xs i 0))) (drop (i + 1) xs)
     unfolding ends_at takes with_byte
     ends_turn = rw (drop-cons xs i 0 h, add-one)
 
     pub ends_turn_live : (n : S) (g : ℤ) → step m (get_or xs i 0) ≡ live n g → ends_at step (live m s) (drop i xs) ≡ 1 + ends_at step (live n (s +ℤ g)) (drop (i + 1) xs)
     unfolding plus
     ends_turn_live n g e = ends_turn ∙ ap (λ (o : Out D S). 1 + ends_at step (plus s o) (drop (i + 1) xs)) e
-
-    pub ends_turn_none : (d : D) → step m (get_or xs i 0) ≡ none d → ends_at step (live m s) (drop i xs) ≡ 1
-    unfolding plus
-    ends_turn_none d e =
-        ends_turn ∙ (ap (λ (o : Out D S). 1 + ends_at step (plus s o) (drop (i + 1) xs)) e ∙ ap (λ (k : ℕ). 1 + k) (ends_none d (drop (i + 1) xs)))
 
 -- ---- what a run keeps
 -- what holds of the record and the score, where the outcome is live
