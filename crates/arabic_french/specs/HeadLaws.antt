@@ -2,7 +2,8 @@
 use Rattle.std.specs.Prelude.{◌≡◌, refl, Bool, true, false, cond, ℕ, ◌%◌, eqb}
 use Rattle.std.proofs.Common.{sym, ◌∙◌}
 use Rattle.std.proofs.Math.Path.{ap}
-use Rattle.laws.specs.Memory.{Forgets, Quiet, forgets}
+use Rattle.laws.specs.Memory.{Forgets, Quiet}
+use Rattle.laws.proofs.Forgets.{forgets}
 use Rattle.single.specs.Class.{class_of, caseless_of, latin_letter, is_capital}
 use Rattle.single.specs.HeadLaws.{quiet_at, is_ascii, not_255, no_letter}
 use Rattle.single.specs.Lent.{Lent}

@@ -5,7 +5,8 @@ use Rattle.std.proofs.Common.{ap, ◌∙◌, arith}
 use Rattle.std.proofs.Math.Bool.{true, false}
 use borrow.Author.Tests.{lt-ltb, ltb-true, ne_eqb}
 use Rattle.laws.specs.Lists.{any}
-use Rattle.laws.specs.Memory.{Forgets, Quiet, forgets}
+use Rattle.laws.specs.Memory.{Forgets, Quiet}
+use Rattle.laws.proofs.Forgets.{forgets}
 use Rattle.laws.specs.Run.{live}
 use Rattle.octets.specs.Octets.{ascii, letter}
 use Rattle.pairs.specs.Pairs.{decoded}

@@ -1,7 +1,8 @@
 -- What the caseless machine forgets.
 use Rattle.std.proofs.Math.Path.{refl}
 use Rattle.std.specs.Prelude.{true, ℕ}
-use Rattle.laws.specs.Memory.{Forgets, Quiet, forgets}
+use Rattle.laws.specs.Memory.{Forgets, Quiet}
+use Rattle.laws.proofs.Forgets.{forgets}
 use Rattle.single.specs.Class.{caseless_of}
 use Rattle.single.specs.HeadLaws.{quiet_at, is_ascii, not_255, no_letter}
 use Rattle.single.specs.Lent.{Lent}

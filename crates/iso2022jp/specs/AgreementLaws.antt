@@ -6,7 +6,8 @@ use Rattle.std.proofs.Common.{◌∙◌, arith, eqb-true}
 use Rattle.std.proofs.Math.Bool.{true, false}
 use Rattle.laws.specs.Tests.{either, through}
 use Rattle.laws.specs.Handler.{end_of_queue, byte, vars_of}
-use Rattle.laws.specs.Validator.{Verdict, at_start, on, outcome_by, decoded_by, last_by, decodes}
+use Rattle.laws.specs.Validator.{Verdict, at_start, on, outcome_by, decoded_by, last_by}
+use Rattle.laws.proofs.Validator.{decodes}
 use Rattle.laws.specs.declared.Reason.TheVariants.{BadByte, BrokenEscape, CutAtClose}
 use Rattle.laws.specs.Run.{none, run, ended, alive}
 use Rattle.octets.specs.Octets.{between}

@@ -4,7 +4,7 @@ use Rattle.laws.specs.Lists.{any}
 use Rattle.laws.specs.declared.Reason.{Reason}
 use Rattle.laws.specs.declared.Reason.TheVariants.{BrokenEscape}
 use Rattle.laws.specs.Run.{none, live, plus, takes, with_byte, run, ends_at}
-use Rattle.laws.specs.Still.{drops}
+use Rattle.laws.proofs.Still.{drops}
 use Rattle.iso2022jp.specs.Iso2022Jp.{fresh, is_text, ascii_of, escape_start_of, designated, state_of, escaped_to, step_in, step_of}
 
 -- none, for this reason, at this byte

@@ -1,7 +1,8 @@
 -- What ISO-2022-JP forgets: text, which is ASCII but for shift out, shift in and the escape, leaves the record fresh.
 use Rattle.std.proofs.Math.Path.{refl}
 use Rattle.std.specs.Prelude.{List, ℕ}
-use Rattle.laws.specs.Memory.{Forgets, Quiet, forgets}
+use Rattle.laws.specs.Memory.{Forgets, Quiet}
+use Rattle.laws.proofs.Forgets.{forgets}
 use Rattle.iso2022jp.specs.Iso2022Jp.{Passes, fresh, is_text, step_of}
 use Rattle.iso2022jp.specs.Iso2022JpLaws.{text_passes, fresh_sound}
 

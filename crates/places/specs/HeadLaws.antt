@@ -6,7 +6,8 @@ use Rattle.std.proofs.Common.{sym, ap, ◌∙◌, arith, length-append}
 use Rattle.laws.specs.Each.{EachFrom, each_weaken}
 use Rattle.laws.specs.Lists.{last as last_of}
 use Rattle.laws.specs.Memory.{all}
-use Rattle.laws.specs.Run.{Outcome, live, run, ends_at, run_append, ends_append, ends_live}
+use Rattle.laws.specs.Run.{Outcome, live, run, ends_at, run_append, ends_append}
+use Rattle.laws.proofs.Run.{ends_live}
 use Rattle.kinds.specs.HeadLaws.{machine_forgets}
 use Rattle.kinds.specs.Kinds.{fresh_of, step_of}
 use Rattle.kinds.specs.Plain.{plain, Plain}

@@ -11,7 +11,8 @@ use Rattle.laws.specs.Run.{Outcome, none, live, plus, run, ends_at, WhenNone, no
 use Rattle.laws.specs.declared.Reason.{Reason}
 use Rattle.laws.specs.declared.Reason.TheVariants.{Class255, BadByte, BadSecondByte, BrokenEscape, CutAtClose, NotInSlate}
 use Rattle.laws.specs.Sizes.{abs_add}
-use Rattle.laws.specs.Still.{Ends, from_zero}
+use Rattle.laws.specs.Still.{Ends}
+use Rattle.laws.proofs.Still.{from_zero}
 use Rattle.laws.specs.Tests.{both, either}
 use Rattle.weights.specs.Weights.{per_byte}
 use Rattle.big5.specs.Big5 as big5

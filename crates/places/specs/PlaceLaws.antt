@@ -5,7 +5,8 @@ use Rattle.std.proofs.Common.{ap, ◌∙◌, mul-le-mul_left, arith, length-appe
 use Rattle.laws.specs.Carried.{Holds}
 use Rattle.laws.specs.Limit.{limit}
 use Rattle.laws.specs.Run.{Outcome, none, live, plus, run, ends_at, last_at, ends_some}
-use Rattle.laws.specs.Still.{from_zero, ends_from_zero}
+use Rattle.laws.specs.Still.{ends_from_zero}
+use Rattle.laws.proofs.Still.{from_zero}
 use Rattle.laws.specs.declared.Reason.{Reason}
 use Rattle.weights.specs.Weights.{per_byte}
 use Rattle.kinds.specs.KindLaws.{reach_open}

@@ -6,7 +6,8 @@ use Rattle.std.proofs.Common.{◌∙◌, inl, inr}
 use Prim.Native.Nat.{ℕ}
 use Rattle.laws.specs.Tests.{either, through}
 use Rattle.laws.specs.Handler.{end_of_queue, byte, Result, vars_of}
-use Rattle.laws.specs.Validator.{at_start, on, outcome_by, decoded_by, last_by, decodes}
+use Rattle.laws.specs.Validator.{at_start, on, outcome_by, decoded_by, last_by}
+use Rattle.laws.proofs.Validator.{decodes}
 use Rattle.laws.specs.declared.Reason.TheVariants.{BadByte, CutAtClose}
 use Rattle.laws.specs.Run.{run, ended, alive}
 use Rattle.octets.specs.Octets.{ascii, between}

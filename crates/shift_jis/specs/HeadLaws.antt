@@ -3,7 +3,8 @@ use Rattle.std.proofs.Math.Path.{refl, sym}
 use Rattle.std.specs.Prelude.{List, ℕ}
 use Rattle.std.proofs.Common.{arith}
 use borrow.Author.Tests.{ltb-true}
-use Rattle.laws.specs.Memory.{Forgets, Quiet, forgets}
+use Rattle.laws.specs.Memory.{Forgets, Quiet}
+use Rattle.laws.proofs.Forgets.{forgets}
 use Rattle.octets.specs.Octets.{ascii}
 use Rattle.shift_jis.specs.ShiftJis.{fresh, step_of}
 use Rattle.shift_jis.specs.ShiftJisLaws.{first_low}

@@ -11,7 +11,8 @@ use Rattle.laws.specs.Validator.{outcome_by, decoded_by, last_by}
 use Rattle.laws.specs.declared.Reason.{Reason}
 use Rattle.laws.specs.declared.Reason.TheVariants.{BadByte}
 use Rattle.laws.specs.Run.{Outcome, none, live, plus, run, run_nil, run_one, run_append, ended, alive}
-use Rattle.laws.specs.Still.{Lives, lives, from_zero, plus_live, ended_live, none_live, run_first, run_drops}
+use Rattle.laws.specs.Still.{Lives, plus_live, ended_live, none_live, run_first}
+use Rattle.laws.proofs.Still.{lives, from_zero, run_drops}
 use Rattle.octets.specs.Octets.{between}
 use Rattle.octets.specs.BetweenLaws.{inside}
 use Rattle.shift_jis.specs.declared.ShiftJis.{ShiftJis}

@@ -7,7 +7,8 @@ use native.Mathlib.Omega.{arith}
 use borrow.Author.Tests.{ne_eqb, eqb-true, eqb-false}
 use Rattle.laws.specs.Tests.{either, through}
 use Rattle.laws.specs.Handler.{end_of_queue, byte, continue, code_point, error, vars_of}
-use Rattle.laws.specs.Validator.{Verdict, at_start, on, outcome_by, decoded_by, last_by, decodes}
+use Rattle.laws.specs.Validator.{Verdict, at_start, on, outcome_by, decoded_by, last_by}
+use Rattle.laws.proofs.Validator.{decodes}
 use Rattle.laws.specs.declared.Reason.TheVariants.{BadByte, CutAtClose}
 use Rattle.laws.specs.Run.{none, run, ended, alive}
 use Rattle.octets.specs.Octets.{between}

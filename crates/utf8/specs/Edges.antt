@@ -2,7 +2,7 @@
 use Rattle.std.specs.Prelude.{◌≡◌, refl, List, [], ◌∷◌, ℕ, ℤ}
 use Rattle.laws.specs.declared.Reason.TheVariants.{BadByte}
 use Rattle.laws.specs.Run.{none, live, plus, takes, with_byte, run, ends_at}
-use Rattle.laws.specs.Still.{lives, drops}
+use Rattle.laws.proofs.Still.{lives, drops}
 use Rattle.utf8.specs.Utf8.{fresh, lead_of, trail_of, step_of}
 
 -- the bytes live, and no byte is needed after them

@@ -9,7 +9,8 @@ use Rattle.std.proofs.lemmas.Bool.{eqb-false}
 use Rattle.laws.specs.Limit.{limit}
 use Rattle.laws.specs.Answer.{if_unfit}
 use Rattle.laws.specs.declared.Reason.TheVariants.{BadByte}
-use Rattle.laws.specs.Going.{Going, going_start, going_still, going_block, going_none, going_at, going_done}
+use Rattle.laws.specs.Going.{Going, going_start, going_still, going_done}
+use Rattle.laws.proofs.Going.{going_block, going_none, going_at}
 use Rattle.laws.specs.Lists.{count}
 use Rattle.laws.specs.Run.{Outcome, none, live, alive, with_byte, run, last_at, run_nil, run_turn, plus_zero}
 use Rattle.laws.specs.Still.{run_first}

@@ -1,7 +1,8 @@
 -- What UTF-8 forgets: ASCII leaves the record fresh.
 use Rattle.std.specs.Prelude.{refl}
 use Rattle.std.proofs.Common.{sym, ltb-true}
-use Rattle.laws.specs.Memory.{Forgets, Quiet, forgets}
+use Rattle.laws.specs.Memory.{Forgets, Quiet}
+use Rattle.laws.proofs.Forgets.{forgets}
 use Rattle.octets.specs.Octets.{ascii}
 use Rattle.utf8.specs.Utf8.{fresh, step_of}
 use Rattle.utf8.specs.Utf8Laws.{lead_ascii}

@@ -8,7 +8,8 @@ use Rattle.std.proofs.Math.IntN.{+ℤ_idr}
 use Rattle.laws.specs.declared.Reason.{Reason}
 use Rattle.laws.specs.declared.Reason.TheVariants.{BadByte}
 use Rattle.laws.specs.Run.{Outcome, none, live, plus, run, run_append, run_nil, ended, alive}
-use Rattle.laws.specs.Still.{Lives, lives, lives_begun, from_zero, run_first, run_drops, none_live, plus_live, ended_live}
+use Rattle.laws.specs.Still.{Lives, run_first, none_live, plus_live, ended_live}
+use Rattle.laws.proofs.Still.{lives, lives_begun, from_zero, run_drops}
 use Rattle.laws.specs.Validator.{decoded_by, last_by}
 use Rattle.laws.specs.Table.{and_left, and_right, every, nothing, within}
 use Rattle.octets.specs.Octets.{between}

@@ -1,7 +1,8 @@
 -- `Caseless::run_fit` meets its contract: the loop of `Going`, with what the step before has noted.
 use Rattle.std.proofs.Common.{sym, ap, ◌+◌, arith, get_or}
 use Rattle.laws.specs.Answer.{ran_is}
-use Rattle.laws.specs.Going.{going_next, going_none, going_at, going_done}
+use Rattle.laws.specs.Going.{going_next, going_done}
+use Rattle.laws.proofs.Going.{going_none, going_at}
 use Rattle.single.specs.Lent.{lent}
 use Rattle.caseless_script.specs.Noted.{noted, rough_live, rough_none, rough_rests, noted_next}
 use Rattle.caseless_script.specs.Caseless.{took_of, ran_as}

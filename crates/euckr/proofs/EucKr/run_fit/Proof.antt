@@ -6,7 +6,8 @@ use lib.ListN.{length}
 use borrow.Author.Rules.{rules}
 use mir.Syntax.{w64}
 use mir.Val.{to_z}
-use Rattle.laws.specs.Going.{Going, going_start, going_next, going_fits, going_none, going_at, going_done, going_small}
+use Rattle.laws.specs.Going.{Going, going_start, going_next, going_fits, going_done, going_small}
+use Rattle.laws.proofs.Going.{going_none, going_at}
 use Rattle.laws.specs.Limit.{room}
 use Rattle.weights.specs.Weights.{per_byte}
 use Rattle.pairs.specs.Pairs.{reason_by}

@@ -8,7 +8,8 @@ use lib.ListN.{length, get_or}
 use mir.Syntax.{w64}
 use mir.Val.{to_z}
 use Rattle.laws.specs.Answer.{ran, ran_is}
-use Rattle.laws.specs.Going.{Going, going_start, going_next, going_fits, going_none, going_at, going_done, going_small}
+use Rattle.laws.specs.Going.{Going, going_start, going_next, going_fits, going_done, going_small}
+use Rattle.laws.proofs.Going.{going_none, going_at}
 use Rattle.laws.specs.Limit.{room}
 use Rattle.weights.specs.Weights.{per_byte}
 use Rattle.single.specs.Lent.{Lent, lent}
