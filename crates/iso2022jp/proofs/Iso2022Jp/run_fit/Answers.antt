@@ -1,7 +1,8 @@
 -- `Iso2022Jp::run_fit` meets its contract: the loop of `Going`, whose measure is what is left of the part.
 use mathlib.Core.Path.{refl, ap, sym, ◌∙◌}
 use native.Mathlib.Omega.{arith}
-use Rattle.laws.specs.Going.{going_still, going_none, going_at, going_done}
+use Rattle.laws.specs.Going.{going_still, going_done}
+use Rattle.laws.proofs.Going.{going_none, going_at}
 use Rattle.iso2022jp.specs.declared.Ran.TheVariants.{Dropped}
 use Rattle.iso2022jp.specs.Iso2022Jp.{Passes, out_of, ran_as}
 use Rattle.iso2022jp.specs.Iso2022JpLaws.{step_live}

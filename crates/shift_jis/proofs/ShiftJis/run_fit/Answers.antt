@@ -1,7 +1,8 @@
 -- `ShiftJis::run_fit` meets its contract: the loop of `Going`, whose measure is what is left of the part.
 use mathlib.Core.Path.{ap, sym, ◌∙◌}
 use native.Mathlib.Omega.{arith}
-use Rattle.laws.specs.Going.{going_still, going_none, going_at, going_done}
+use Rattle.laws.specs.Going.{going_still, going_done}
+use Rattle.laws.proofs.Going.{going_none, going_at}
 use Rattle.laws.specs.declared.Reason.TheVariants.{BadByte}
 use Rattle.shift_jis.specs.declared.Ran.TheVariants.{Dropped}
 use Rattle.shift_jis.specs.ShiftJis.{out_of, ran_as}
