@@ -13,7 +13,7 @@ place_name k = get_or places k (ascii "shift_jis")
 
 -- why a place has no score
 unfoldable pub reason_name : Reason → List ℕ
-reason_name Class255 = ascii "class_255"
+reason_name Class255 = ascii "class-255"
 reason_name BadByte = ascii "bad-byte"
 reason_name BadSecondByte = ascii "bad-second-byte"
 reason_name BrokenEscape = ascii "broken-escape"

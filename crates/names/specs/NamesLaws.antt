@@ -34,7 +34,7 @@ place_name_lem (suc (suc (suc (suc (suc (suc (suc (suc k)))))))) = wide (text "s
 -- no reason's word has more than 15
 pub reason_name_lem : (d : Reason) → Fits 15 (reason_name d)
 unfolding reason_name
-reason_name_lem Class255 = wide (text "class_255") refl
+reason_name_lem Class255 = wide (text "class-255") refl
 reason_name_lem BadByte = wide (text "bad-byte") refl
 reason_name_lem BadSecondByte = wide (text "bad-second-byte") refl
 reason_name_lem BrokenEscape = wide (text "broken-escape") refl
