@@ -48,7 +48,7 @@ state_name_lem decoder.TheVariants.Roman = wide (text "roman") refl
 state_name_lem decoder.TheVariants.Katakana = wide (text "katakana") refl
 state_name_lem decoder.TheVariants.LeadByte = wide (text "lead") refl
 state_name_lem decoder.TheVariants.TrailByte = wide (text "trail") refl
-state_name_lem decoder.TheVariants.EscapeStart = wide (text "escape_start") refl
+state_name_lem decoder.TheVariants.EscapeStart = wide (text "escape-start") refl
 state_name_lem decoder.TheVariants.Escape = wide (text "escape") refl
 
 out_name_lem : (s : output.OutputState) → Fits 8 (out_name s)

@@ -13,7 +13,7 @@ state_name decoder.TheVariants.Roman = ascii "roman"
 state_name decoder.TheVariants.Katakana = ascii "katakana"
 state_name decoder.TheVariants.LeadByte = ascii "lead"
 state_name decoder.TheVariants.TrailByte = ascii "trail"
-state_name decoder.TheVariants.EscapeStart = ascii "escape_start"
+state_name decoder.TheVariants.EscapeStart = ascii "escape-start"
 state_name decoder.TheVariants.Escape = ascii "escape"
 
 unfoldable pub out_name : output.OutputState → List ℕ
