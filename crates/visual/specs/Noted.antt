@@ -1,5 +1,5 @@
 -- The code's own step, which leaves the flags of its byte to be found from the byte itself. No public contract cites it.
-use Rattle.std.specs.Prelude.{◌≡◌, refl, Bool, true, false, cond, not, ◌&&◌, List, ℕ, ◌+◌, ◌-◌, eqb, ℤ, pos, get_or}
+use Rattle.std.specs.Prelude.{◌≡◌, refl, Bool, true, false, cond, not, ◌&&◌, List, ℕ, ◌+◌, ◌-◌, eqb, ℤ, get_or}
 use Rattle.std.proofs.Common.{sym}
 use Rattle.laws.specs.Run.{Outcome, live, none}
 use Rattle.laws.specs.declared.Reason.{Reason}
