@@ -1,6 +1,6 @@
 -- Loops over bytes, one turn at i and the end; the bytes of a text that found room.
-use Rattle.std.specs.Prelude.{◌≡◌, refl, cond, List, [], ◌∷◌, ◌++◌, ℕ, suc, ◌+◌, ◌-◌, ◌≤◌, ◌<◌, eqb, ltb, length, get_or, take, drop}
-use Rattle.std.proofs.Common.{sym, ap, ◌∙◌, arith, drop_of_length-le, length-drop, drop-cons, take_all, take_at, ltb-false}
+use Rattle.std.specs.Prelude.{◌≡◌, refl, cond, List, ◌++◌, ℕ, suc, ◌+◌, ◌-◌, ◌≤◌, ◌<◌, eqb, ltb, length, get_or, take, drop}
+use Rattle.std.proofs.Common.{sym, ◌∙◌, arith, drop_of_length-le, length-drop, drop-cons, take_all, take_at, ltb-false}
 use Rattle.std.proofs.Math.Numerals.{add-one}
 use Rattle.laws.specs.Tests.{either}
 use Rattle.scribe.specs.FitsLaws.{Fits, whole}

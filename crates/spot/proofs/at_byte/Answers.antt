@@ -1,0 +1,9 @@
+-- `at_byte` meets its contract.
+use mathlib.Core.Path.{◌∙◌}
+use Rattle.scribe.specs.PageLaws.{follow, onto_one}
+use Rattle.spot.specs.Spot.{byte_text}
+use Rattle.spot.proofs.at_byte.Goals as goal
+
+pub returns : goal.returns
+unfolding byte_text
+returns c = follow _ _ _ (follow _ _ _ (follow _ _ _ (follow _ _ _ c.word-a.ensures c.decimal-b.ensures) (c.byte-c.ensures ∙ onto_one _ _)) c.before-d.ensures) c.marked.ensures

@@ -1,0 +1,19 @@
+-- `at_place` meets its contract.
+use Prim.Native.Nat.{◌-◌}
+use lib.ListN.{length}
+use borrow.Author.Tests.{eq-eqb, ne_eqb, lt-ltb, le-ltb}
+use Rattle.scribe.specs.PageLaws.{follow}
+use Rattle.spot.specs.Spot.{at_place_text}
+use Rattle.spot.proofs.at_place.Goals as goal
+
+pub returns-then-place-eq0 : goal.returns-then-place-eq0
+unfolding at_place_text
+returns-then-place-eq0 c = rw (eq-eqb _ _ c.if-place-eq0.true) c.word.ensures
+
+pub returns-then-place-less : goal.returns-then-place-less
+unfolding at_place_text
+returns-then-place-less c = let a = c.args in rw (ne_eqb _ _ c.if-place-eq0.false, lt-ltb (a.place - 1) (length a.file.now - a.head) (rw c.less.ensures at c.if-place-less.true)) c.at_byte.ensures
+
+pub returns : goal.returns
+unfolding at_place_text
+returns c = let a = c.args in rw (ne_eqb _ _ c.if-place-eq0.false, le-ltb (a.place - 1) (length a.file.now - a.head) (rw c.less.ensures at c.if-place-less.false)) (follow _ _ _ c.word-a.ensures c.at_end.ensures)

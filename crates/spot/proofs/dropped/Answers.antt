@@ -1,0 +1,8 @@
+-- `dropped` meets its contract.
+use Rattle.scribe.specs.PageLaws.{follow}
+use Rattle.spot.specs.Spot.{spot_text}
+use Rattle.spot.proofs.dropped.Goals as goal
+
+pub returns : goal.returns
+unfolding spot_text
+returns c = follow _ _ _ c.why-a.ensures c.location.ensures
