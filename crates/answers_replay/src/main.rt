@@ -5,50 +5,62 @@
 ghost use Rattle.std.specs.Prelude.{◌≤◌, length};
 
 use reader::number;
+use std::fs::File;
+use std::io::Result;
+use std::os::fd::AsRawFd;
+use std::rt::Files;
 
-// Up to `most` bytes of a file, after what the descriptor has.
-fn append(to: i32, path: &[u8], most: usize) {
-    let from = os::open_read(path);
+// Up to `most` bytes of a descriptor, after what the other has.
+fn append(to: i32, from: i32, most: usize) {
     let mut block = io::buffer();
     let mut left = most;
     while 0 < left {
         let got = io::read_full(from, &mut block);
         if got == 0 {
-            libc::close(from);
             return;
         }
         if left < got {
             io::write_all(to, &block[..left]);
-            libc::close(from);
             return;
         }
         io::write_all(to, &block[..got]);
         left = left - got;
     }
-    libc::close(from);
 }
 
-fn play_input() {
-    let input = os::open_read(b"input");
-    play::play(input, false);
-    libc::close(input);
+// The same of a file.
+fn append_file(
+    rt: &impl Files<File = File>,
+    to: &File,
+    path: &str,
+    most: usize,
+) -> Result<()> {
+    let from = File::open(rt, path)?;
+    append(to.as_raw_fd(), from.as_raw_fd(), most);
+    Ok(())
+}
+
+fn play_input(rt: &impl Files<File = File>) -> Result<()> {
+    let input = File::open(rt, "input")?;
+    play::play(input.as_raw_fd(), false);
+    Ok(())
 }
 
 // Cases that stand in a file.
-fn play_file(tables: &[u8], cases: &[u8]) {
-    let to = os::open_overwrite(b"input");
-    append(to, tables, 1_000_000);
-    append(to, cases, 1_000_000);
-    libc::close(to);
-    play_input();
+fn play_file(rt: &impl Files<File = File>, tables: &str, cases: &str) -> Result<()> {
+    let to = File::create(rt, "input")?;
+    append_file(rt, &to, tables, 1_000_000)?;
+    append_file(rt, &to, cases, 1_000_000)?;
+    drop(to);
+    play_input(rt)
 }
 
 // Lent data cut short.
-fn play_cut(tables: &[u8], most: usize) {
-    let to = os::open_overwrite(b"input");
-    append(to, tables, most);
-    libc::close(to);
-    play_input();
+fn play_cut(rt: &impl Files<File = File>, tables: &str, most: usize) -> Result<()> {
+    let to = File::create(rt, "input")?;
+    append_file(rt, &to, tables, most)?;
+    drop(to);
+    play_input(rt)
 }
 
 fn read_part(from: i32, bytes: &mut [u8], count: usize) -> usize
@@ -64,56 +76,55 @@ fn write_part(to: i32, bytes: &[u8], count: usize)
 }
 
 // The next short case, its length before it. Answers whether there was one.
-fn play_next(from: i32, tables: &[u8]) -> bool {
+fn play_next(rt: &impl Files<File = File>, from: i32, tables: &str) -> Result<bool> {
     let mut head = [0u8; 4];
     if io::read_full(from, &mut head) < 4 {
-        return false;
+        return Ok(false);
     }
     let count = number::four(&head, 0) as usize;
     if 131_072 < count {
-        return false;
+        return Ok(false);
     }
     let mut bytes = [0u8; 131072];
     if read_part(from, &mut bytes, count) < count {
-        return false;
+        return Ok(false);
     }
-    let to = os::open_overwrite(b"input");
-    append(to, tables, 1_000_000);
-    write_part(to, &bytes, count);
-    libc::close(to);
-    play_input();
-    true
+    let to = File::create(rt, "input")?;
+    append_file(rt, &to, tables, 1_000_000)?;
+    write_part(to.as_raw_fd(), &bytes, count);
+    drop(to);
+    play_input(rt)?;
+    Ok(true)
 }
 
-fn play_each(tables: &[u8], cases: &[u8]) {
-    let from = os::open_read(cases);
+fn play_each(rt: &impl Files<File = File>, tables: &str, cases: &str) -> Result<()> {
+    let from = File::open(rt, cases)?;
     let mut count: usize = 0;
     while count < 10_000 {
-        if !play_next(from, tables) {
-            libc::close(from);
-            return;
+        if !play_next(rt, from.as_raw_fd(), tables)? {
+            return Ok(());
         }
         count += 1;
     }
-    libc::close(from);
+    Ok(())
 }
 
-fn main() {
-    play_file(b"demo", b"cases");
-    play_file(b"standard", b"cases");
-    play_file(b"mild", b"cases");
-    play_file(b"random", b"cases");
-    play_file(b"demo", b"starts");
-    play_file(b"standard", b"starts");
-    play_file(b"standard", b"japanese");
-    play_file(b"mild", b"japanese");
-    play_file(b"random", b"japanese");
-    play_file(b"demo", b"reasons");
-    play_file(b"standard", b"reasons");
-    play_file(b"ascii255", b"reasons");
-    play_cut(b"demo", 0);
-    play_cut(b"demo", 1);
-    play_cut(b"demo", 375_027);
-    play_cut(b"demo", 375_028);
-    play_each(b"demo", b"malformed");
+fn main(rt: HostRuntime) -> Result<()> {
+    play_file(&rt, "demo", "cases")?;
+    play_file(&rt, "standard", "cases")?;
+    play_file(&rt, "mild", "cases")?;
+    play_file(&rt, "random", "cases")?;
+    play_file(&rt, "demo", "starts")?;
+    play_file(&rt, "standard", "starts")?;
+    play_file(&rt, "standard", "japanese")?;
+    play_file(&rt, "mild", "japanese")?;
+    play_file(&rt, "random", "japanese")?;
+    play_file(&rt, "demo", "reasons")?;
+    play_file(&rt, "standard", "reasons")?;
+    play_file(&rt, "ascii255", "reasons")?;
+    play_cut(&rt, "demo", 0)?;
+    play_cut(&rt, "demo", 1)?;
+    play_cut(&rt, "demo", 375_027)?;
+    play_cut(&rt, "demo", 375_028)?;
+    play_each(&rt, "demo", "malformed")
 }

@@ -8,6 +8,10 @@ use lines::show;
 use scribe::{STDERR_FILENO, STDOUT_FILENO};
 use state;
 use state::State;
+use std::fs::File;
+use std::os::fd::AsRawFd;
+use std::rt::{Env, Files};
+use std::str;
 
 // A chunk that no text is longer than.
 const WHOLE: usize = 262_144;
@@ -88,10 +92,11 @@ fn print(state: State) {
     io::write_all(STDOUT_FILENO, &page[..end]);
 }
 
-fn open() -> i32 {
+fn open(rt: &(impl Env + Files<File = File>)) -> Option<File> {
     let mut path = io::buffer();
-    let n = os::arg(4, &mut path);
-    os::open_read(&path[..n])
+    let n = arguments::argument(rt, 4, &mut path);
+    let path = str::from_utf8(&path[..n]).ok()?;
+    File::open(rt, path).ok()
 }
 
 fn run_over(bits: u16, size: usize, text: &[u8], from: i32) -> bool {
@@ -142,9 +147,14 @@ fn run_over(bits: u16, size: usize, text: &[u8], from: i32) -> bool {
 
 // The arguments: the places that take part, as a number of nine bits, the size of a chunk (0 for all of the text), a file of
 // lent data.
-pub(crate) fn run(text: &[u8]) {
-    let bits = (arguments::number(2) % 512) as u16;
-    if !run_over(bits, arguments::number(3), text, open()) {
+pub(crate) fn run(rt: &(impl Env + Files<File = File>), text: &[u8]) {
+    let bits = (arguments::number(rt, 2) % 512) as u16;
+    let size = arguments::number(rt, 3);
+    let done = match open(rt) {
+        Some(from) => run_over(bits, size, text, from.as_raw_fd()),
+        None => false,
+    };
+    if !done {
         io::write_all(
             STDERR_FILENO,
             b"bench: all BITS CHUNK TABLES, the last a file of lent data\n",

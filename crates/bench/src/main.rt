@@ -8,6 +8,8 @@ mod lent;
 
 use context::Scanned;
 use scribe::{STDERR_FILENO, STDIN_FILENO, STDOUT_FILENO};
+use std::fs::File;
+use std::rt::{Env, Files};
 
 fn scanned_to(chunk: &[u8]) -> u64 {
     match context::scan(chunk) {
@@ -62,25 +64,25 @@ fn unknown() {
     );
 }
 
-fn run(what: Thing) {
+fn run(rt: &(impl Env + Files<File = File>), what: Thing) {
     let mut bytes = [0u8; 262144];
     let n = io::read_full(STDIN_FILENO, &mut bytes);
     match what {
         Thing::Count => print(context::count_non_ascii(&bytes[..n])),
         Thing::Scan => print(scanned_to(&bytes[..n])),
         Thing::Contains => print(contains(&bytes[..n])),
-        Thing::All => all::run(&bytes[..n]),
+        Thing::All => all::run(rt, &bytes[..n]),
         Thing::Unknown => unknown(),
     }
 }
 
-fn main() {
+fn main(rt: HostRuntime) {
     let mut name = [0u8; 32];
-    let k = os::arg(1, &mut name);
+    let k = arguments::argument(&rt, 1, &mut name);
     let what = named(&name[..k]);
     if let Thing::Unknown = what {
         unknown();
         return;
     }
-    run(what);
+    run(&rt, what);
 }

@@ -9,6 +9,10 @@ ghost use Rattle.std.specs.Prelude.{◌≡◌, ◌+◌, ◌^◌, ◌<◌, ◌≤
 
 use iso2022jp::Iso2022Jp;
 use reader::fill;
+use std::fs::File;
+use std::io::Result;
+use std::os::fd::AsRawFd;
+use std::rt::Files;
 
 // A descriptor that each program has.
 pub(crate) const STDOUT_FILENO: i32 = 1;
@@ -86,18 +90,12 @@ fn show(name: &[u8], index: &[u32])
     tally_of(index).print();
 }
 
-// A file's entries, and how many they are; none where it can't be read.
-fn read(path: &[u8], index: &mut [u32]) -> usize
+// A descriptor's entries, and how many they are; none where it can't be read.
+fn read(fd: i32, index: &mut [u32]) -> usize
     ensures { result ≤ 24576 }
 {
-    let fd = os::open_read(path);
-    if fd < 0 {
-        os::fail(path);
-        return 0;
-    }
     let mut bytes = [0u8; 98304];
     let n = io::read_full(fd, &mut bytes);
-    libc::close(fd);
     fill::words(&bytes[..n], index);
     n / 4
 }
@@ -111,30 +109,36 @@ fn fewer(n: usize, most: usize) -> usize
     n
 }
 
-fn big5() {
+fn big5(rt: &impl Files<File = File>) -> Result<()> {
+    let file = File::open(rt, "index-big5.u32le")?;
     let mut index = [0u32; 24576];
-    let n = read(b"index-big5.u32le", &mut index);
+    let n = read(file.as_raw_fd(), &mut index);
     show(b"big5", &index[0..n]);
     decoders::big5(&index[0..n]);
+    Ok(())
 }
 
-fn euckr() {
+fn euckr(rt: &impl Files<File = File>) -> Result<()> {
+    let file = File::open(rt, "index-euc-kr.u32le")?;
     let mut index = [0u32; 24576];
-    let n = read(b"index-euc-kr.u32le", &mut index);
+    let n = read(file.as_raw_fd(), &mut index);
     show(b"euc-kr", &index[0..n]);
     decoders::euckr(&index[0..n]);
+    Ok(())
 }
 
 // The JIS X 0208 index, and that part of it which ISO-2022-JP reads.
-fn jis0208() {
+fn jis0208(rt: &impl Files<File = File>) -> Result<()> {
+    let file = File::open(rt, "index-jis0208.u32le")?;
     let mut index = [0u32; 24576];
-    let n = read(b"index-jis0208.u32le", &mut index);
+    let n = read(file.as_raw_fd(), &mut index);
     show(b"jis0208", &index[0..n]);
     show(b"jis0208", &index[0..fewer(n, Iso2022Jp::FIRST)]);
+    Ok(())
 }
 
-fn main() {
-    big5();
-    euckr();
-    jis0208();
+fn main(rt: HostRuntime) -> Result<()> {
+    big5(&rt)?;
+    euckr(&rt)?;
+    jis0208(&rt)
 }

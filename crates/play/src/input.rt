@@ -68,16 +68,10 @@ fn read_on(from: i32, window: &mut [u8], filled: usize, want: usize) -> usize
     requires { (filled ≤ length window.old) × (want ≤ length window.old) }
     ensures { result ≤ length window.old }
 {
-    let mut end = filled;
-    while end < want {
-        let got = libc::read(from, &mut window[end..]);
-        let more = io::count(got, &window[end..]);
-        if more == 0 {
-            return end;
-        }
-        end += more;
+    if want <= filled {
+        return filled;
     }
-    end
+    filled + io::read_full(from, &mut window[filled..want])
 }
 
 // So many bytes at hand, or all that the input still has.

@@ -9,6 +9,9 @@ ghost use Rattle.std.specs.Prelude.{◌≡◌, ◌≤◌};
 use iso2022jp::{Iso2022Jp, Ran};
 use lengths::JIS;
 use reader::fill;
+use std::fs::File;
+use std::io::Result;
+use std::os::fd::AsRawFd;
 use tally::{Counts, Verdict};
 
 fn machine(part: &[u8], index: &[u32]) -> Verdict {
@@ -181,16 +184,11 @@ fn print_sweeps(index: &[u32]) {
     swept(Sweep::Twice, 65536, index).print(b"escapes straight after ESC ( B:");
 }
 
-fn main() {
-    let path = b"index-jis0208.u32le";
-    let file = os::open_read(path);
-    if file < 0 {
-        os::fail(path);
-        return;
-    }
+fn main(rt: HostRuntime) -> Result<()> {
+    let file = File::open(&rt, "index-jis0208.u32le")?;
     let mut bytes = [0u8; 4 * JIS];
-    let got = io::read_full(file, &mut bytes);
-    libc::close(file);
+    let got = io::read_full(file.as_raw_fd(), &mut bytes);
+    drop(file);
     tally::print_count(b"bytes of the index ", got as u64);
     let mut index = [0u32; JIS];
     fill::words(&bytes, &mut index);
@@ -199,4 +197,5 @@ fn main() {
     tally::print_mapped(b" entries ", &index[0..Iso2022Jp::FIRST]);
     tally::print_word(b"\n");
     print_sweeps(&index);
+    Ok(())
 }

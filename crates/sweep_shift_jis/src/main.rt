@@ -10,6 +10,9 @@ ghost use Rattle.std.specs.Prelude.{◌≡◌, ◌≤◌, length};
 use lengths::JIS;
 use reader::fill;
 use shift_jis::{Ran, ShiftJis};
+use std::fs::File;
+use std::io::Result;
+use std::os::fd::AsRawFd;
 use tally::{Counts, Verdict};
 
 // The pointers of private use, and the first after them.
@@ -331,16 +334,11 @@ fn print_streams(index: &[u32]) {
     cuts.three.print(b"cut in three:");
 }
 
-fn main() {
-    let path = b"index-jis0208.u32le";
-    let file = os::open_read(path);
-    if file < 0 {
-        os::fail(path);
-        return;
-    }
+fn main(rt: HostRuntime) -> Result<()> {
+    let file = File::open(&rt, "index-jis0208.u32le")?;
     let mut bytes = [0u8; 4 * JIS];
-    let got = io::read_full(file, &mut bytes);
-    libc::close(file);
+    let got = io::read_full(file.as_raw_fd(), &mut bytes);
+    drop(file);
     tally::print_count(b"bytes of the index ", got as u64);
     let mut index = [0u32; JIS];
     fill::words(&bytes, &mut index);
@@ -354,4 +352,5 @@ fn main() {
     print_private(&mut index, 0x11_0000);
     print_private(&mut index, 0xD800);
     print_private(&mut index, 0x4E00);
+    Ok(())
 }
