@@ -8,6 +8,7 @@ use context::{Context, Scanned};
 
 // Descriptors that each program has.
 const STDIN_FILENO: i32 = 0;
+
 const STDOUT_FILENO: i32 = 1;
 
 // How far the answers were read, and how many chunks there were, and were right.

@@ -29,12 +29,7 @@ fn append(to: i32, from: i32, most: usize) {
 }
 
 // The same of a file.
-fn append_file(
-    rt: &impl Files<File = File>,
-    to: &File,
-    path: &str,
-    most: usize,
-) -> Result<()> {
+fn append_file(rt: &impl Files<File = File>, to: &File, path: &str, most: usize) -> Result<()> {
     let from = File::open(rt, path)?;
     append(to.as_raw_fd(), from.as_raw_fd(), most);
     Ok(())
