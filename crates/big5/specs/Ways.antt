@@ -1,5 +1,5 @@
 -- What the code's branches need of the definitions: sizes, and sums as the code makes them.
-use Rattle.std.specs.Prelude.{◌≡◌, refl, Bool, true, false, ◌&&◌, ◌⊎◌, ℕ, ◌+◌, ◌<◌, ◌≤◌, eqb, ℤ, ◌+ℤ◌}
+use Rattle.std.specs.Prelude.{◌≡◌, refl, Bool, true, false, ◌&&◌, ◌⊎◌, ℕ, ◌<◌, ◌≤◌, eqb, ℤ, ◌+ℤ◌}
 use Rattle.std.proofs.Common.{sym, ap, ◌∙◌, inl, inr, arith, SFits}
 use Rattle.std.proofs.Math.IntN.{nat_abs}
 use borrow.Author.Tests.{eq-eqb, ne_eqb, lt-ltb, le-ltb}

@@ -1,0 +1,32 @@
+-- `Big5::step` meets its contract.
+use mathlib.Core.Path.{ap, ◌∙◌}
+use native.Mathlib.Omega.{arith}
+use Rattle.laws.specs.Sizes.{thru64}
+use Rattle.weights.specs.Weights.{term}
+use Rattle.big5.specs.Scoring.{after_byte, other_of, lent}
+use Rattle.big5.specs.Ways.{step_on}
+use Rattle.big5.proofs.Big5.step.Goals as goal
+
+pub returns-in-Pending : goal.returns-in-Pending
+returns-in-Pending c =
+    let s = c in
+    let d = c.decode-d in
+    c.pending.ensures ∙ (step_on (lent s.args.index.now s.args.w) s.args.self s.args.b d.result d.ensures _ c.in-Pending.is)
+
+pub returns-in-Point : goal.returns-in-Point
+returns-in-Point c =
+    let s = c in
+    let d = c.decode-d in
+    c.after_byte.ensures _ ∙ (ap (after_byte d.result.lead s.args.b) c.point.ensures ∙ step_on (lent s.args.index.now s.args.w) s.args.self s.args.b d.result d.ensures _ c.in-Point.is)
+
+pub returns-in-Two : goal.returns-in-Two
+returns-in-Two c =
+    let s = c in
+    let d = c.decode-d in
+    c.after_byte-in-Two.ensures _ ∙ (ap (after_byte d.result.lead s.args.b) (c.other.ensures ∙ ap (other_of s.args.self) (thru64 s.args.w.other term s.requires.small_scale.other (omega arith))) ∙ step_on (lent s.args.index.now s.args.w) s.args.self s.args.b d.result d.ensures _ c.in-Two.is)
+
+pub returns-in-Error : goal.returns-in-Error
+returns-in-Error c =
+    let s = c in
+    let d = c.decode-d in
+    c.error.ensures ∙ (step_on (lent s.args.index.now s.args.w) s.args.self s.args.b d.result d.ensures _ c.in-Error.is)
