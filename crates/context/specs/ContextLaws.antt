@@ -1,11 +1,11 @@
 -- What holds of the saved context after any chunks.
 use Rattle.std.specs.Prelude.{◌≡◌, refl, ℕ, suc, ◌-◌, ◌≤◌, length, get_or}
 use Rattle.std.proofs.Common.{sym, ap, ◌∙◌, not-suc-le-zero, arith, length-take, drop-cons, take_all}
-use mathlib.Core.List.{List, [], ◌∷◌, ◌++◌, append-nil, append_assoc, flatten}
+use mathlib.Core.List.{List, [], ◌∷◌, ◌++◌, append-nil}
 use Rattle.std.proofs.Math.Seq.{drop-length}
 use Rattle.laws.specs.Lists.{last, last_short, last_length, last_append, last_last}
 use Rattle.context.specs.declared.Context.{Context}
-use Rattle.context.specs.Context.{bytes_of, context_of, push_of, pushes_of}
+use Rattle.context.specs.Context.{bytes_of, context_of, push_of}
 
 -- ---- a context holds two bytes at most, and a list of at most two is what its context holds
 pub bytes_most : (c : Context) → length (bytes_of c) ≤ 2
@@ -67,14 +67,3 @@ unfolding push_of
 push_context xs [] = ap (λ (l : List ℕ). context_of (last 2 l)) (sym (append-nil xs))
 push_context xs (y ∷ ys) =
     ap context_of (ap (λ (l : List ℕ). last 2 (l ++ (y ∷ ys))) (bytes_context (last 2 xs) (last_length 2 xs)) ∙ last_last 2 xs (y ∷ ys))
-
-pushes_context : (xs : List ℕ) (chunks : List (List ℕ)) → pushes_of (context_of (last 2 xs)) chunks ≡ context_of (last 2 (xs ++ flatten chunks))
-unfolding pushes_of flatten
-pushes_context xs [] = ap (λ (l : List ℕ). context_of (last 2 l)) (sym (append-nil xs))
-pushes_context xs (y ∷ ys) =
-    ap (λ (c : Context). pushes_of c ys) (push_context xs y) ∙ (pushes_context (xs ++ y) ys ∙ ap (λ (l : List ℕ). context_of (last 2 l)) (append_assoc xs y (flatten ys)))
-
--- After any sequence of pushes the context is the last two bytes of all that was pushed, or fewer.
-pub pushes_last : (chunks : List (List ℕ)) → pushes_of (context_of []) chunks ≡ context_of (last 2 (flatten chunks))
-unfolding last
-pushes_last chunks = pushes_context [] chunks
