@@ -1,9 +1,6 @@
 pub mod CallsLaws
 pub mod Needed
-pub mod NeededLaws
 pub mod PlacesLaws
 pub mod Posted
-pub mod PostedLaws
 pub mod Privacy
-pub mod PrivacyLaws
 pub mod SplitLaws

@@ -10,7 +10,7 @@ use Rattle.state.specs.declared.leader.Leader.{Leader}
 use Rattle.sheet.specs.Sheet.{bytes_line, place_lines, leader_line, sheet_of}
 use Rattle.privacy.specs.Posted.{Posted}
 use Rattle.privacy.specs.Privacy.{after_calls}
-use Rattle.privacy.specs.PrivacyLaws.{privacy, same_places}
+use Rattle.privacy.proofs.PrivacyLaws.{privacy, same_places}
 
 -- what stands before the line and behind it
 abbrev title : List ℕ
