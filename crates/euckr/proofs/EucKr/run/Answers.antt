@@ -1,0 +1,33 @@
+-- `EucKr::run` meets its contract.
+use mathlib.Core.Path.{sym, ◌∙◌}
+use Rattle.laws.specs.Answer.{if_unfit}
+use Rattle.euckr.specs.EucKr.{Ready, ran_of}
+use Rattle.euckr.specs.EucKrLaws.{ready_true, ran_ready}
+use Rattle.euckr.proofs.EucKr.run.Goals as goal
+use Rattle.euckr.proofs.EucKr.run.Goals.{Then-is_ready}
+
+-- what the test says
+ready : (c : Then-is_ready) → Ready c.args.index.now c.args.extras.now c.args.weights.now c.args.self c.args.part.now
+ready c = ready_true c.args.index.now c.args.extras.now c.args.weights.now c.args.self c.args.part.now (sym c.is_ready.ensures ∙ c.if-is_ready.true)
+
+pub run_fit-requires-clause-sound : goal.run_fit-requires-clause-sound
+run_fit-requires-clause-sound c = (ready (goal.at.run_fit-requires-clause-sound c).Then-is_ready).sound
+
+pub run_fit-requires-clause-part_len_bound : goal.run_fit-requires-clause-part_len_bound
+run_fit-requires-clause-part_len_bound c = (ready (goal.at.run_fit-requires-clause-part_len_bound c).Then-is_ready).short
+
+pub run_fit-requires-clause-index_len : goal.run_fit-requires-clause-index_len
+run_fit-requires-clause-index_len c = (ready (goal.at.run_fit-requires-clause-index_len c).Then-is_ready).index_length
+
+pub run_fit-requires-clause-extras_len : goal.run_fit-requires-clause-extras_len
+run_fit-requires-clause-extras_len c = (ready (goal.at.run_fit-requires-clause-extras_len c).Then-is_ready).extras_length
+
+pub returns-then-is_ready-clause-value : goal.returns-then-is_ready-clause-value
+returns-then-is_ready-clause-value c =
+    let r = ready (goal.at.returns-then-is_ready-clause-value c).Then-is_ready in
+    let e = rw c.read.ensures.value at c.run_fit.ensures.value in
+    e ∙ sym (ran_ready c.args.index.now c.args.extras.now c.args.weights.now c.args.self c.args.part.now r)
+
+pub returns-clause-value : goal.returns-clause-value
+unfolding ran_of
+returns-clause-value c = sym (if_unfit _ _ _ _ _ _ (sym c.is_ready.ensures ∙ c.if-is_ready.false))
