@@ -7,7 +7,6 @@ use Rattle.std.proofs.Math.ListN.{length-append}
 use Rattle.laws.specs.Carried.{Holds}
 use Rattle.laws.specs.Run.{Outcome, none, live, run, ends_at, run_append, run_none, ends_append, ends_none, ends_most}
 use Rattle.laws.proofs.Run.{ends_live}
-use Rattle.laws.specs.declared.Reason.{Reason}
 use Rattle.kinds.specs.KindLaws.{Alike, run_alike}
 use Rattle.kinds.specs.Kinds.{step_of}
 use Rattle.tables.specs.Own.{Own, own_of}

@@ -1,0 +1,25 @@
+-- `feed_visual` meets its contract.
+use Rattle.std.proofs.Common.{[], ap, w64, rules}
+use Rattle.laws.specs.Sizes.{thru}
+use Rattle.tables.specs.Own.{own}
+use Rattle.kinds.specs.declared.machine.Machine.TheVariants.{Visual}
+use Rattle.places.specs.FedLaws.{way_none, way_live}
+use Rattle.places.proofs.place.feed_visual.Goals as goal
+
+pub returns-in_default-clause-value : goal.returns-in_default-clause-value
+returns-in_default-clause-value c = (way_none 6 (own c.args.classes.now c.args.marks.now c.args.pairs.now [] [] c.args.weights.now) c.args.body c.args.part.now c.args.places _ (search rules) (Visual c.fresh.result) (ap Visual c.fresh.ensures) c.in_default.field-0 c.in_default.field-1 c.in_default.is c.passed.result c.passed.ensures).0
+
+pub returns-in_default-clause-known_fed : goal.returns-in_default-clause-known_fed
+returns-in_default-clause-known_fed c = (way_none 6 (own c.args.classes.now c.args.marks.now c.args.pairs.now [] [] c.args.weights.now) c.args.body c.args.part.now c.args.places _ (search rules) (Visual c.fresh.result) (ap Visual c.fresh.ensures) c.in_default.field-0 c.in_default.field-1 c.in_default.is c.passed.result c.passed.ensures).1
+
+pub returns-clause-value : goal.returns-clause-value
+returns-clause-value c =
+    let z = c.in-Live.before in
+    let r = c.run_visual in
+    (way_live 6 (own c.args.classes.now c.args.marks.now c.args.pairs.now [] [] c.args.weights.now) c.args.body c.args.part.now c.args.places _ (search rules) (Visual c.fresh.result) (ap Visual c.fresh.ensures) z c.in-Live.is r.result c.settled.result r.ensures.value r.ensures.bounded r.ensures.weighed (rw (thru w64 z (search rules)) at c.settled.ensures)).0
+
+pub returns-clause-known_fed : goal.returns-clause-known_fed
+returns-clause-known_fed c =
+    let z = c.in-Live.before in
+    let r = c.run_visual in
+    (way_live 6 (own c.args.classes.now c.args.marks.now c.args.pairs.now [] [] c.args.weights.now) c.args.body c.args.part.now c.args.places _ (search rules) (Visual c.fresh.result) (ap Visual c.fresh.ensures) z c.in-Live.is r.result c.settled.result r.ensures.value r.ensures.bounded r.ensures.weighed (rw (thru w64 z (search rules)) at c.settled.ensures)).1
