@@ -1,4 +1,3 @@
 pub mod ArabicFrench
 pub mod ArabicFrenchLaws
-pub mod HeadLaws
 pub mod Noted

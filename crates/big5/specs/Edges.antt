@@ -18,7 +18,7 @@ use Rattle.pairs.specs.declared.Held.{Held}
 use Rattle.pairs.specs.declared.Held.TheVariants.{Nothing}
 use Rattle.big5_decoder.specs.Standard.{is_trail, layout, is_mapped, pointer_of, points_of, pair_of, decode_of}
 use Rattle.big5_decoder.specs.SpecialsLaws.{specials}
-use Rattle.big5_decoder.specs.StandardLaws.{mapped_pair}
+use Rattle.big5_decoder.proofs.StandardLaws.{mapped_pair}
 use Rattle.big5.specs.Ways.{step_on}
 use Rattle.big5.specs.Scoring.{is_distinct, other_of, unit_of, point_of, after_byte, unmapped_of, extension_of, stray_of, error_of, fresh, Lent, step_of}
 use Rattle.big5.specs.declared.Big5.{Big5}

@@ -1,4 +1,3 @@
 pub mod Standard
 pub mod SpecialsLaws
 pub mod Ways
-pub mod StandardLaws

@@ -39,7 +39,7 @@ use Rattle.euckr.specs.Scoring as euckr
 use Rattle.euckr.specs.declared.EucKr.{EucKr as EucKrRecord}
 use Rattle.kinds.specs.Kinds.{fresh_of, step_of}
 use Rattle.tables.specs.Own.{place_count, own_of}
-use Rattle.tables.specs.OwnLaws.{own_sized}
+use Rattle.tables.proofs.OwnLaws.{own_sized}
 use Rattle.tables.specs.Tables.{Tables, Sized}
 use Rattle.kinds.specs.declared.machine.Machine.{Machine}
 use Rattle.kinds.specs.declared.machine.Machine.TheVariants.{Utf8, Iso2022Jp, EucKr, Big5}

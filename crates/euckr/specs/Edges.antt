@@ -17,7 +17,7 @@ use Rattle.pairs.specs.declared.Event.TheVariants.{Pending, Point}
 use Rattle.pairs.specs.declared.Held.{Held}
 use Rattle.pairs.specs.declared.Held.TheVariants.{Nothing, Score}
 use Rattle.euckr_decoder.specs.Standard.{is_trail, layout, pointer_of, is_mapped, points_of, pair_of, decode_of}
-use Rattle.euckr_decoder.specs.StandardLaws.{mapped_pair}
+use Rattle.euckr_decoder.proofs.StandardLaws.{mapped_pair}
 use Rattle.euckr.specs.Scoring.{extra_of, is_euc, is_hangul, hangul_after, long_of, scored, holds_of, around_of, inner_of, outer_of, hangul_of, other_of, unit_of, extension_of, after_byte, stray_of, error_of, fresh, Lent, lent, step_of}
 use Rattle.euckr.specs.Ways.{step_on}
 use Rattle.euckr.specs.declared.EucKr.{EucKr}

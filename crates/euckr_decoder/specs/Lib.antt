@@ -1,3 +1,2 @@
 pub mod Standard
 pub mod Ways
-pub mod StandardLaws

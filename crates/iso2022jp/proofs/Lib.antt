@@ -1,2 +1,3 @@
+pub mod AgreementLaws
 pub mod Determined
 pub mod States

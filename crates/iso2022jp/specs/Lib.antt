@@ -1,5 +1,4 @@
 pub mod Agreement
-pub mod AgreementLaws
 pub mod Edges
 pub mod FirstLaws
 pub mod HeadLaws

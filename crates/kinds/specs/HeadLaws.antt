@@ -17,7 +17,7 @@ use Rattle.iso2022jp.specs.HeadLaws.{iso2022jp_forgets}
 use Rattle.iso2022jp.specs.Iso2022Jp.{is_text}
 use Rattle.iso2022jp.specs.Iso2022JpLaws.{text_rest}
 use Rattle.single.specs.HeadLaws.{quiet_at}
-use Rattle.arabic_french.specs.HeadLaws.{arabic_french_forgets}
+use Rattle.arabic_french.proofs.HeadLaws.{arabic_french_forgets}
 use Rattle.caseless_script.specs.HeadLaws.{caseless_forgets}
 use Rattle.logical.specs.HeadLaws.{logical_forgets}
 use Rattle.visual.specs.HeadLaws.{visual_forgets}

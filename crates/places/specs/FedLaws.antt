@@ -16,7 +16,7 @@ use Rattle.kinds.specs.KindsLaws.{ran_fit, closed_fit}
 use Rattle.kinds.specs.Sound.{SoundFor}
 use Rattle.kinds.specs.SoundLaws.{sound_more}
 use Rattle.tables.specs.Own.{Own, place_count, own_of, SizedAt}
-use Rattle.tables.specs.OwnLaws.{own_sized}
+use Rattle.tables.proofs.OwnLaws.{own_sized}
 use Rattle.tables.specs.Tables.{Tables, Sized}
 use Rattle.kinds.specs.declared.machine.Machine.{Machine}
 use Rattle.kinds.specs.declared.machine.Machine.TheVariants.{Utf8, Iso2022Jp, EucKr, Big5, Caseless, Logical, Visual, ArabicFrench, ShiftJis}

@@ -1,11 +1,7 @@
 pub mod Agreement
-pub mod AgreementLaws
 pub mod HeadLaws
 pub mod Sequences
-pub mod SequencesLaws
 pub mod ShiftJis
 pub mod ShiftJisLaws
 pub mod Standard
-pub mod StandardLaws
-pub mod TextLaws
 pub mod Ways

@@ -1,4 +1,3 @@
 pub mod Own
-pub mod OwnLaws
 pub mod Tables
 pub mod TablesLaws

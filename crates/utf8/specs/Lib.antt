@@ -1,5 +1,4 @@
 pub mod Agreement
-pub mod AgreementLaws
 pub mod Edges
 pub mod Grid
 pub mod GridLaws
@@ -7,6 +6,4 @@ pub mod HeadLaws
 pub mod Standard
 pub mod Utf8
 pub mod Utf8Laws
-pub mod Walk
 pub mod WellFormed
-pub mod WellFormedLaws

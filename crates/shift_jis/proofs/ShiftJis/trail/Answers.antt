@@ -3,7 +3,7 @@ use mathlib.Core.Path.{◌≡◌, sym, ap, ◌∙◌}
 use mathlib.Core.Bool.{Bool, true, false}
 use Prim.Native.Nat.{◌+◌, ◌*◌}
 use Rattle.shift_jis.specs.Standard.{is_trail, pointer}
-use Rattle.shift_jis.specs.StandardLaws.{pointer_parts}
+use Rattle.shift_jis.proofs.StandardLaws.{pointer_parts}
 use Rattle.shift_jis.specs.ShiftJis.{is_point, trail_of}
 use Rattle.shift_jis.proofs.ShiftJis.trail.Goals as goal
 use Rattle.shift_jis.proofs.ShiftJis.trail.Goals.{After-is_point}

@@ -17,13 +17,13 @@ use Rattle.octets.specs.Octets.{between}
 use Rattle.octets.specs.BetweenLaws.{inside}
 use Rattle.shift_jis.specs.declared.ShiftJis.{ShiftJis}
 use Rattle.shift_jis.specs.Standard.{is_lead, is_trail, is_mapped, handler}
-use Rattle.shift_jis.specs.StandardLaws.{lead_least}
+use Rattle.shift_jis.proofs.StandardLaws.{lead_least}
 use Rattle.shift_jis.specs.ShiftJis.{holds, fresh, step_of, close_of}
 use Rattle.shift_jis.specs.ShiftJisLaws.{first_low, first_katakana, first_lead, first_rest}
 use Rattle.shift_jis.specs.Agreement.{reason_of, outcome_of}
-use Rattle.shift_jis.specs.AgreementLaws.{step_agrees, stream_agrees}
+use Rattle.shift_jis.proofs.AgreementLaws.{step_agrees, stream_agrees}
 use Rattle.shift_jis.specs.Sequences.{is_private_lead, entry_of, Yields, itself, katakana, private_use, mapped, Reads, Text, empty, then}
-use Rattle.shift_jis.specs.SequencesLaws.{after_lead, next_private, next_mapped, next_unmapped, next_no_trail, yields_reads}
+use Rattle.shift_jis.proofs.SequencesLaws.{after_lead, next_private, next_mapped, next_unmapped, next_no_trail, yields_reads}
 
 module _ (index : List ℕ) where
   -- ---- what is a text, lives

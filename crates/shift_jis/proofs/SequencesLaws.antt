@@ -8,7 +8,7 @@ use Rattle.octets.specs.Octets.{between}
 use Rattle.octets.specs.BetweenLaws.{inside, above, between_low, between_high}
 use Rattle.pairs.specs.Ranks.{rank_of}
 use Rattle.shift_jis.specs.Standard.{is_lead, is_trail, pointer, is_mapped, first, no_point, pointed, next, handler}
-use Rattle.shift_jis.specs.StandardLaws.{lead_least, first_itself, first_katakana, first_lead, first_bad, pointer_rank, private_lead, private_rank}
+use Rattle.shift_jis.proofs.StandardLaws.{lead_least, first_itself, first_katakana, first_lead, first_bad, pointer_rank, private_lead, private_rank}
 use Rattle.shift_jis.specs.Sequences.{is_private_lead, entry_of, Yields, itself, katakana, private_use, mapped, Reads}
 
 private_is_lead : (lead : ℕ) → is_private_lead lead ≡ true → is_lead lead ≡ true

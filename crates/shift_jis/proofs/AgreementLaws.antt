@@ -16,7 +16,7 @@ use Rattle.shift_jis.specs.Standard.{is_lead, is_trail, pointer, is_private_use,
 use Rattle.shift_jis.specs.ShiftJis.{holds, fresh, Sound, first_of, trail_of, step_of, close_of}
 use Rattle.shift_jis.specs.ShiftJisLaws.{fresh_sound}
 use Rattle.shift_jis.specs.Agreement.{record_of, reason_of, outcome_of}
-use Rattle.shift_jis.specs.StandardLaws.{up_to_80, first_lead}
+use Rattle.shift_jis.proofs.StandardLaws.{up_to_80, first_lead}
 
 -- ---- tests taken together or one after the other
 one_of : {A : Type 0} (p q : Bool) (x y : A) → cond (p || q) x y ≡ cond p x (cond q x y)

@@ -10,7 +10,7 @@ use Rattle.laws.specs.Run.{Outcome, none, alive, run, ended, plus}
 use Rattle.utf8.specs.declared.Utf8.{Utf8}
 use Rattle.utf8.specs.Utf8.{fresh, next_in, step_of, close_of}
 use Rattle.utf8.specs.WellFormed.{Text}
-use Rattle.utf8.specs.WellFormedLaws.{text_lives, closes_text}
+use Rattle.utf8.proofs.WellFormedLaws.{text_lives, closes_text}
 use Rattle.utf8.specs.Grid.{bad, last, record_at, outcome_at, state_of, state_after, IsGrid}
 use Rattle.utf8.specs.GridLaws.{numbered, entry_most, not_bad, leads}
 

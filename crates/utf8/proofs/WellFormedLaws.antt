@@ -19,7 +19,7 @@ use Rattle.utf8.specs.WellFormed.{Range, Row, table, Fits, FitsOne, WellFormed, 
 use Rattle.utf8.specs.Utf8.{needs, fresh, lead_of, step_of, close_of}
 use Rattle.utf8.specs.Standard.{initial, handler}
 use Rattle.utf8.specs.Agreement.{reason_of, outcome_of}
-use Rattle.utf8.specs.AgreementLaws.{stream_agrees}
+use Rattle.utf8.proofs.AgreementLaws.{stream_agrees}
 use Rattle.utf8.specs.Utf8Laws.{step_lead, step_within, step_outside, lead_late, close_whole}
 
 -- ---- the record that waits for the rest of a row
