@@ -1,5 +1,5 @@
 -- What an accepted chunk leaves is in order.
-use Rattle.std.specs.Prelude.{◌≡◌, Bool, cond, not, ◌||◌, ℕ, ◌+◌, ◌-◌, ◌<◌, ◌≤◌, drop}
+use Rattle.std.specs.Prelude.{◌≡◌, Bool, cond, ◌||◌, ℕ, ◌+◌, ◌-◌, ◌<◌, ◌≤◌, drop}
 use Rattle.std.proofs.Math.Path.{refl}
 use Rattle.std.proofs.Common.{sym, arith, length-take, length-drop}
 use Rattle.std.proofs.Math.Bool.{true, false}

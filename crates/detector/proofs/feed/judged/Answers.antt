@@ -5,7 +5,6 @@ use mathlib.Core.Bool.{true}
 use Rattle.detector.specs.FeedLaws.{judged_order, judged_closed, judged_length, judged_long, judged_accept}
 use Rattle.state.specs.Order.{state_b}
 use Rattle.state.specs.OrderLaws.{order_true}
-use borrow.Author.Rules.{rules}
 use Rattle.detector.proofs.feed.judged.Goals as goal
 
 pub returns-then-not-is_in_order : goal.returns-then-not-is_in_order

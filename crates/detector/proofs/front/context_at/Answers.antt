@@ -2,7 +2,6 @@
 use native.Mathlib.Omega.{arith}
 use mathlib.Core.Path.{◌∙◌}
 use Rattle.detector.specs.FrontLaws.{context_emptied, context_kept}
-use borrow.Author.Rules.{rules}
 use Rattle.detector.proofs.front.context_at.Goals as goal
 
 pub returns-then-at-ge-MOST : goal.returns-then-at-ge-MOST

@@ -2,7 +2,6 @@
 use native.Mathlib.Omega.{arith}
 use Rattle.laws.specs.Lists.{count_most}
 use Rattle.octets.specs.Octets.{non_ascii}
-use borrow.Author.Rules.{rules}
 use Rattle.detector.proofs.front.counted.Goals as goal
 
 pub overflow_add-result : goal.overflow_add-result

@@ -1,6 +1,5 @@
 -- `saved` meets its contract.
 use Rattle.detector.specs.Front.{context_by}
-use borrow.Author.Rules.{rules}
 use Rattle.detector.proofs.front.saved.Goals as goal
 
 pub returns-in-Earlier : goal.returns-in-Earlier

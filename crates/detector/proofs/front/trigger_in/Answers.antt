@@ -2,7 +2,6 @@
 use mathlib.Core.Path.{sym, ap, ◌∙◌}
 use Rattle.detector.specs.Front.{found_as}
 use Rattle.detector.specs.FrontLaws.{trigger_earlier, trigger_found}
-use borrow.Author.Rules.{rules}
 use Rattle.detector.proofs.front.trigger_in.Goals as goal
 
 pub returns-then-is_triggered : goal.returns-then-is_triggered

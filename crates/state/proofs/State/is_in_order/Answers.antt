@@ -1,6 +1,5 @@
 -- `is_in_order` meets its contract.
 use mathlib.Core.Path.{sym, ◌∙◌}
-use borrow.Author.Rules.{rules}
 use Rattle.state.specs.Order.{state_b}
 use Rattle.state.proofs.State.is_in_order.Goals as goal
 

@@ -1,5 +1,4 @@
 -- `is_triggerless` meets its contract.
-use borrow.Author.Rules.{rules}
 use borrow.Author.Tests.{eq-eqb, ne_eqb}
 use Rattle.state.specs.Order.{triggerless_b}
 use Rattle.state.proofs.front.is_triggerless.Goals as goal
