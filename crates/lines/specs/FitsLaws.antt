@@ -13,15 +13,6 @@ use Rattle.euckr.specs.declared.LatinKorean as korean
 use Rattle.iso2022jp.specs.declared.DecoderState as decoder
 use Rattle.iso2022jp.specs.declared.OutputState as output
 use Rattle.arabic_french.specs.declared.LatinCaseState as case
-use Rattle.utf8.specs.declared.Utf8 as utf-8
-use Rattle.iso2022jp.specs.declared.Iso2022Jp as iso2022jp
-use Rattle.euckr.specs.declared.EucKr as euckr
-use Rattle.big5.specs.declared.Big5 as big5
-use Rattle.caseless_script.specs.declared.Caseless as caseless
-use Rattle.logical.specs.declared.Logical as logical
-use Rattle.visual.specs.declared.Visual as visual
-use Rattle.arabic_french.specs.declared.ArabicFrench as arabic_french
-use Rattle.shift_jis.specs.declared.ShiftJis as shiftJis
 use Rattle.kinds.specs.Kinds.{place_number}
 use Rattle.kinds.specs.declared.machine.Machine.{Machine}
 use Rattle.kinds.specs.declared.machine.Machine.TheVariants.{Utf8, Iso2022Jp, EucKr, Big5, Caseless, Logical, Visual, ArabicFrench, ShiftJis}

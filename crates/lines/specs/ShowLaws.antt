@@ -1,6 +1,6 @@
 -- The saved context by its length, and the places one after the other.
 use Rattle.std.specs.Prelude.{◌≡◌, refl, List, [], ◌∷◌, ◌++◌, ℕ, zero, suc, ◌+◌, ◌≤◌, ◌<◌, length, get_or, take, drop}
-use Rattle.std.proofs.Common.{sym, ap, ◌∙◌, append-nil, add-one, arith, drop_of_length-le, drop-cons}
+use Rattle.std.proofs.Common.{sym, ◌∙◌, append-nil, add-one, arith, drop_of_length-le, drop-cons}
 use Rattle.std.proofs.Math.Seq.{take-nil}
 use Rattle.scribe.specs.Page.{Page, onto}
 use Rattle.scribe.specs.PageLaws.{onto_append}

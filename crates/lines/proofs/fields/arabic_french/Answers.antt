@@ -1,0 +1,8 @@
+-- `arabic_french` meets its contract.
+use Rattle.scribe.specs.PageLaws.{follow}
+use Rattle.lines.specs.Fields.{arabic_french_text}
+use Rattle.lines.proofs.fields.arabic_french.Goals as goal
+
+pub returns : goal.returns
+unfolding arabic_french_text
+returns c = follow _ _ _ (follow _ _ _ (follow _ _ _ c.class-a.ensures c.word-b.ensures) c.case-c.ensures) c.words.ensures

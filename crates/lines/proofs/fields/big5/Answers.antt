@@ -1,0 +1,8 @@
+-- `big5` meets its contract.
+use Rattle.scribe.specs.PageLaws.{follow}
+use Rattle.lines.specs.Fields.{big5_text}
+use Rattle.lines.proofs.fields.big5.Goals as goal
+
+pub returns : goal.returns
+unfolding big5_text
+returns c = follow _ _ _ (follow _ _ _ (follow _ _ _ (follow _ _ _ c.hex-a.ensures c.hex-b.ensures) c.word-c.ensures) c.cj-d.ensures) c.held.ensures

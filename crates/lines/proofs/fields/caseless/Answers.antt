@@ -1,0 +1,8 @@
+-- `caseless` meets its contract.
+use Rattle.scribe.specs.PageLaws.{follow}
+use Rattle.lines.specs.Fields.{caseless_text}
+use Rattle.lines.proofs.fields.caseless.Goals as goal
+
+pub returns : goal.returns
+unfolding caseless_text
+returns c = follow _ _ _ c.class-a.ensures c.words.ensures

@@ -1,0 +1,8 @@
+-- `class` meets its contract.
+use Rattle.scribe.specs.PageLaws.{follow}
+use Rattle.lines.specs.Fields.{class_text}
+use Rattle.lines.proofs.fields.class.Goals as goal
+
+pub returns : goal.returns
+unfolding class_text
+returns c = follow _ _ _ (rw c.wide.ensures at c.count-a.ensures) c.flag.ensures

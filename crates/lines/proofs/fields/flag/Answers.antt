@@ -1,0 +1,6 @@
+-- `flag` meets its contract.
+use Rattle.scribe.specs.PageLaws.{follow}
+use Rattle.lines.proofs.fields.flag.Goals as goal
+
+pub returns : goal.returns
+returns c = follow _ _ _ c.word-after.ensures c.flag.ensures

@@ -1,0 +1,6 @@
+-- `hex` meets its contract.
+use Rattle.scribe.specs.PageLaws.{follow}
+use Rattle.lines.proofs.fields.hex.Goals as goal
+
+pub returns : goal.returns
+returns c = follow _ _ _ c.word-after.ensures c.hex.ensures

@@ -1,0 +1,8 @@
+-- `iso2022jp` meets its contract.
+use Rattle.scribe.specs.PageLaws.{follow}
+use Rattle.lines.specs.Fields.{iso2022jp_text}
+use Rattle.lines.proofs.fields.iso2022jp.Goals as goal
+
+pub returns : goal.returns
+unfolding iso2022jp_text
+returns c = follow _ _ _ (follow _ _ _ (follow _ _ _ (follow _ _ _ (follow _ _ _ c.word-a.ensures c.decoder_state-b.ensures) c.word-c.ensures) c.output_state-d.ensures) c.hex-e.ensures) c.flag.ensures

@@ -1,0 +1,8 @@
+-- `visual` meets its contract.
+use Rattle.scribe.specs.PageLaws.{follow}
+use Rattle.lines.specs.Fields.{visual_text}
+use Rattle.lines.proofs.fields.visual.Goals as goal
+
+pub returns : goal.returns
+unfolding visual_text
+returns c = follow _ _ _ (follow _ _ _ (follow _ _ _ c.class-a.ensures c.flag-b.ensures) c.count-c.ensures) c.words.ensures

@@ -1,0 +1,8 @@
+-- `words` meets its contract.
+use Rattle.scribe.specs.PageLaws.{follow}
+use Rattle.lines.specs.Fields.{words_text}
+use Rattle.lines.proofs.fields.words.Goals as goal
+
+pub returns : goal.returns
+unfolding words_text
+returns c = follow _ _ _ c.count-a.ensures c.count.ensures

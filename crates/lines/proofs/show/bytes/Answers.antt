@@ -1,0 +1,8 @@
+-- `bytes` meets its contract.
+use Rattle.scribe.specs.PageLaws.{follow}
+use Rattle.lines.specs.Show.{bytes_text}
+use Rattle.lines.proofs.show.bytes.Goals as goal
+
+pub returns : goal.returns
+unfolding bytes_text
+returns c = follow _ _ _ c.count-a.ensures c.count.ensures

@@ -1,0 +1,8 @@
+-- `dropped` meets its contract.
+use Rattle.scribe.specs.PageLaws.{follow}
+use Rattle.lines.specs.Show.{dropped_text}
+use Rattle.lines.proofs.show.dropped.Goals as goal
+
+pub returns : goal.returns
+unfolding dropped_text
+returns c = follow _ _ _ (follow _ _ _ (follow _ _ _ c.word-a.ensures c.reason-b.ensures) c.count-c.ensures) c.end_line.ensures

@@ -1,0 +1,8 @@
+-- `place` meets its contract.
+use Rattle.scribe.specs.PageLaws.{follow}
+use Rattle.lines.specs.Show.{place_text}
+use Rattle.lines.proofs.show.place.Goals as goal
+
+pub returns : goal.returns
+unfolding place_text
+returns c = follow _ _ _ (rw c.place_number.ensures at c.place-a.ensures) c.scored.ensures

@@ -1,0 +1,8 @@
+-- `reply` meets its contract.
+use Rattle.scribe.specs.PageLaws.{follow}
+use Rattle.lines.specs.Show.{reply_text}
+use Rattle.lines.proofs.show.reply.Goals as goal
+
+pub returns : goal.returns
+unfolding reply_text
+returns c = follow _ _ _ (follow _ _ _ (rw (c.wide.ensures, c.number.ensures) at c.count-a.ensures) (rw c.flag.ensures at c.flag-b.ensures)) c.end_line.ensures
