@@ -1,0 +1,13 @@
+-- `with_start` is safe: what is written ends within the text.
+use mathlib.Core.Path.{sym}
+use native.Mathlib.Omega.{arith}
+use lib.Seq.{length-take-le}
+use Rattle.scribe.specs.PageLaws.{reach}
+use borrow.Author.Rules.{rules}
+use Rattle.play.proofs.print.Sink.with_start.Goals as goal
+
+pub slice_bounds-text-end : goal.slice_bounds-text-end
+slice_bounds-text-end c = reach _ _ 0 _ _ (omega arith) c.start-end.ensures
+
+pub slice_bounds-with-end : goal.slice_bounds-with-end
+slice_bounds-with-end c = sym (length-take-le _ _ (reach _ _ 0 _ _ (omega arith) c.start-end.ensures))
