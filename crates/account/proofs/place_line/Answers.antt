@@ -1,0 +1,9 @@
+-- `place_line` meets its contract.
+use mathlib.Core.Path.{◌∙◌}
+use Rattle.scribe.specs.PageLaws.{follow, onto_one}
+use Rattle.account.specs.Account.{place_line}
+use Rattle.account.proofs.place_line.Goals as goal
+
+pub returns : goal.returns
+unfolding place_line
+returns c = follow _ _ _ (follow _ _ _ (follow _ _ _ c.place-a.ensures c.word-b.ensures) c.told-c.ensures) (c.byte.ensures ∙ onto_one _ _)
