@@ -3,7 +3,6 @@ use mathlib.Core.Path.{sym}
 use native.Mathlib.Omega.{arith}
 use lib.Seq.{length-take-le}
 use Rattle.scribe.specs.PageLaws.{reach}
-use borrow.Author.Rules.{rules}
 use Rattle.bench.proofs.all.print.Goals as goal
 
 pub slice_bounds-page-end : goal.slice_bounds-page-end
