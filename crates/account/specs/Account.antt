@@ -1,10 +1,10 @@
 -- What is told of a file: each place with its score, or why and where in the file it dropped out.
-use Rattle.std.specs.Prelude.{cond, List, [], ◌∷◌, ◌++◌, ℕ, suc, ◌-◌, ltb, length}
+use Rattle.std.specs.Prelude.{cond, List, [], ◌∷◌, ◌++◌, ℕ, suc, ◌-◌, ltb, length, Ok, Err}
 use Rattle.names.specs.Names.{place_name}
 use Rattle.scribe.specs.Text.{ascii, newline, decimal_of, signed_of}
 use Rattle.spot.specs.Spot.{spot_text}
 use Rattle.places.specs.declared.place.Place.{Place}
-use Rattle.places.specs.declared.place.Score as score
+use Rattle.places.specs.Score.{Score}
 use Rattle.state.specs.declared.State.{State}
 use Rattle.state.specs.declared.front.Front.{Front}
 use Rattle.label.specs.Label.{most, state_of}
@@ -13,12 +13,12 @@ use Rattle.label.specs.Label.{most, state_of}
 unfoldable pub head_length : Front → ℕ
 head_length f = f.bytes - f.body
 
-unfoldable pub told_text : List ℕ → ℕ → score.Score → List ℕ
-told_text file head (score.TheVariants.None d at) = spot_text file head d at
-told_text file head (score.TheVariants.Live n) = ascii "score " ++ signed_of n
+unfoldable pub told_text : List ℕ → ℕ → Score → List ℕ
+told_text file head (Err why) = spot_text file head why.reason why.at
+told_text file head (Ok n) = ascii "score " ++ signed_of n
 
 -- the place with number k
-unfoldable pub place_line : List ℕ → ℕ → ℕ → score.Score → List ℕ
+unfoldable pub place_line : List ℕ → ℕ → ℕ → Score → List ℕ
 place_line file head k s = place_name k ++ ascii ": " ++ told_text file head s ++ newline
 
 -- places in the order of their numbers, the first one's being k

@@ -1,5 +1,5 @@
 -- A buffer of 1,280 bytes has room for what any state tells of any file, and for every answer.
-use Rattle.std.specs.Prelude.{◌≡◌, ℕ, suc, ◌*◌, ltb, length, drop}
+use Rattle.std.specs.Prelude.{◌≡◌, ℕ, suc, ◌*◌, ltb, length, drop, Ok, Err}
 use Rattle.std.proofs.Math.Path.{refl}
 use mathlib.Core.List.{List, [], ◌∷◌, ◌++◌}
 use native.Mathlib.Omega.{arith}
@@ -10,19 +10,19 @@ use Rattle.scribe.specs.Page.{page, onto}
 use Rattle.spot.specs.FitsLaws.{dropped_short}
 use Rattle.tables.specs.Own.{place_count}
 use Rattle.places.specs.declared.place.Place.{Place}
-use Rattle.places.specs.declared.place.Score as score
+use Rattle.places.specs.Score.{Score}
 use Rattle.state.specs.declared.State.{State}
 use Rattle.label.specs.Label.{most, state_of}
 use Rattle.label.specs.RoomLaws.{all_places}
 use Rattle.account.specs.Account.{head_length, told_text, place_line, place_lines, count_lines, account_of, answer_of}
 
 module _ (file : List ℕ) (head : ℕ) where
-  told : (s : score.Score) → Fits 99 (told_text file head s)
+  told : (s : Score) → Fits 99 (told_text file head s)
   unfolding told_text
-  told (score.TheVariants.None d at) = dropped_short file head d at
-  told (score.TheVariants.Live n) = wide (joined (text "score ") (signed n)) refl
+  told (Err why) = dropped_short file head why.reason why.at
+  told (Ok n) = wide (joined (text "score ") (signed n)) refl
 
-  place : (k : ℕ) (s : score.Score) → Fits 115 (place_line file head k s)
+  place : (k : ℕ) (s : Score) → Fits 115 (place_line file head k s)
   unfolding place_line
   place k s = joined (joined (joined (place_name_lem k) (text ": ")) (told s)) line_end
 

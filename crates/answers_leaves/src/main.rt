@@ -2,16 +2,12 @@
 // oracle/README.md gives for `leaves`: 256 bytes of flags, then cases of chunks with what each chunk gives.
 #![tactic(auto)]
 
-ghost use Rattle.std.specs.Prelude.{◌+◌, ◌^◌, ◌<◌, ◌≤◌, length};
+ghost use Rattle.std.specs.Prelude.{◌<◌, ◌≤◌, length};
 
 use context::{Context, Scanned};
+use scribe::{STDIN_FILENO, STDOUT_FILENO};
 
-// Descriptors that each program has.
-const STDIN_FILENO: i32 = 0;
-
-const STDOUT_FILENO: i32 = 1;
-
-// How far the answers were read, and how many chunks there were, and were right.
+// How far the answers were read, how many chunks of the case are still to come, and how many chunks there were, and were right.
 #[derive(Clone, Copy)]
 struct Progress {
     at: usize,
@@ -21,136 +17,81 @@ struct Progress {
     right: usize,
 }
 
-fn flag(b: bool) -> u8
-    ensures { result ≤ 1 }
-{
-    if b { 1 } else { 0 }
-}
-
 // What the tests of one byte give, as the answers have it.
 fn byte_answer(b: u8) -> u8 {
-    let one = [b];
-    let unfit = flag(octets::contains_upper_case_period_or_non_ascii(&one));
-    let held = flag(octets::problematic_lead(b));
-    flag(octets::is_ascii_punctuation(b)) + 2 * held + 4 * unfit
+    let unfit = octets::contains_upper_case_period_or_non_ascii(&[b]);
+    let held = octets::problematic_lead(b);
+    u8::from(octets::is_ascii_punctuation(b)) + 2 * u8::from(held) + 4 * u8::from(unfit)
 }
 
 // How many of the 256 bytes have the answer that stands first.
-fn bytes_right(answers: &[u8]) -> usize
-    requires { 256 ≤ length answers.now }
-{
-    let mut right: usize = 0;
-    let mut b: usize = 0;
-    while b < 256 {
-        right = add_if(right, byte_answer(b as u8) == answers[b]);
-        b += 1;
-    }
-    right
-}
-
-fn scan_kind(s: Scanned) -> u8 {
-    match s {
-        Scanned::End => 0,
-        Scanned::Escape(_) => 1,
-        Scanned::NonAscii(_) => 2,
-    }
-}
-
-fn scan_offset(s: Scanned, end: usize) -> usize {
-    match s {
-        Scanned::End => end,
-        Scanned::Escape(at) => at,
-        Scanned::NonAscii(at) => at,
-    }
-}
-
-// The byte of the context at `at`, or 0 past its end.
-fn context_byte(c: Context, at: usize) -> u8
-    requires { at < 2 }
-{
-    if at < c.count() {
-        let bytes = c.bytes();
-        return bytes[at];
-    }
-    0
+fn bytes_right(answers: &[u8]) -> usize {
+    (0..=u8::MAX)
+        .zip(answers)
+        .filter(|(b, answer)| byte_answer(*b) == **answer)
+        .count()
 }
 
 // What a chunk gives, as the answers have it: the context after it, the non-ASCII count, the trigger and its offset,
 // and whether the chunk is unfit for a label.
 fn chunk_answer(c: Context, chunk: &[u8]) -> [u8; 7] {
-    let scanned = context::scan(chunk);
+    let (kind, offset) = match context::scan(chunk) {
+        Scanned::End => (0, chunk.len()),
+        Scanned::Escape(at) => (1, at),
+        Scanned::NonAscii(at) => (2, at),
+    };
+    let bytes = c.bytes();
     [
         (c.count() % 256) as u8,
-        context_byte(c, 0),
-        context_byte(c, 1),
+        if 0 < c.count() { bytes[0] } else { 0 },
+        if 1 < c.count() { bytes[1] } else { 0 },
         (context::count_non_ascii(chunk) % 256) as u8,
-        scan_kind(scanned),
-        (scan_offset(scanned, chunk.len()) % 256) as u8,
-        flag(octets::contains_upper_case_period_or_non_ascii(chunk)),
+        kind,
+        (offset % 256) as u8,
+        u8::from(octets::contains_upper_case_period_or_non_ascii(chunk)),
     ]
-}
-
-// One more where the answer was right.
-fn add_if(n: usize, right: bool) -> usize
-    requires { n + 1 < 2 ^ 64 }
-    ensures { result ≤ n + 1 }
-{
-    if right { n + 1 } else { n }
 }
 
 // One chunk of a case: its length, its bytes, seven answers. What is cut short ends the reading.
 fn chunk_turn(answers: &[u8], p: Progress) -> Progress
-    requires at_in_bounds { (p.at < length answers.now) × (0 < p.left) }
-    requires chunks_le_at { (p.chunks ≤ p.at) × (p.right ≤ p.at) }
-    ensures at_lt_at { (p.at < result.at) × (result.at ≤ length answers.now) }
-    ensures chunks_le_at_2 { (result.chunks ≤ result.at) × (result.right ≤ result.at) }
+    requires { (p.at < length answers.now) × (0 < p.left) }
+    ensures { (p.at < result.at) × (result.at ≤ length answers.now) }
 {
-    let at = p.at;
-    let start = at + 1;
-    let len = wide(answers[at]);
-    let context = p.context;
+    let start = p.at + 1;
+    let len = usize::from(answers[p.at]);
     if answers.len() - start < len + 7 {
         return Progress {
             at: answers.len(),
             left: p.left,
-            context,
+            context: p.context,
             chunks: p.chunks,
             right: p.right,
         };
     }
     let end = start + len;
-    let next = context.push(&answers[start..end]);
-    let answer = chunk_answer(next, &answers[start..end]);
-    let right = check::same(&answer, &answers[end..end + 7]);
+    let context = p.context.push(&answers[start..end]);
+    let answer = chunk_answer(context, &answers[start..end]);
+    let is_right = check::same(&answer, &answers[end..end + 7]);
     Progress {
         at: end + 7,
         left: p.left - 1,
-        context: next,
-        chunks: p.chunks + 1,
-        right: add_if(p.right, right),
+        context,
+        chunks: p.chunks.saturating_add(1),
+        right: p.right.saturating_add(usize::from(is_right)),
     }
-}
-
-fn wide(b: u8) -> usize
-    ensures { result < 256 }
-{
-    b as usize
 }
 
 // A case's number of chunks, or a chunk.
 fn turn(answers: &[u8], p: Progress) -> Progress
-    requires at_in_bounds { p.at < length answers.now }
-    requires chunks_le_at { (p.chunks ≤ p.at) × (p.right ≤ p.at) }
-    ensures at_lt_at { (p.at < result.at) × (result.at ≤ length answers.now) }
-    ensures chunks_le_at_2 { (result.chunks ≤ result.at) × (result.right ≤ result.at) }
+    requires { p.at < length answers.now }
+    ensures { (p.at < result.at) × (result.at ≤ length answers.now) }
 {
     if 0 < p.left {
         return chunk_turn(answers, p);
     }
-    let at = p.at;
     Progress {
-        at: at + 1,
-        left: answers[at],
+        at: p.at + 1,
+        left: answers[p.at],
         context: Context::fresh(),
         chunks: p.chunks,
         right: p.right,
@@ -167,12 +108,14 @@ fn replay(answers: &[u8], from: usize) -> Progress
         chunks: 0,
         right: 0,
     };
+    // `at` goes on by as many bytes as a chunk says, so no `for` counts it.
     while p.at < answers.len() {
         p = turn(answers, p);
     }
     p
 }
 
+// What can't be written is passed over, and the program goes on: `println!` would give each call a Result to throw away.
 fn print(name: &[u8], right: usize, of: usize) {
     io::write_all(STDOUT_FILENO, name);
     io::print_decimal(STDOUT_FILENO, right as u64);

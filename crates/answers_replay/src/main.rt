@@ -2,15 +2,13 @@
 // over the same bytes. Each input is put together in the file `input` first.
 #![tactic(auto)]
 
-ghost use Rattle.std.specs.Prelude.{◌≤◌, length};
-
 use reader::number;
 use std::fs::File;
 use std::io::Result;
 use std::os::fd::AsRawFd;
 use std::rt::Files;
 
-// Up to `most` bytes of a descriptor, after what the other has.
+// Up to `most` bytes of a descriptor, after what the other has. The loop ends with the input, and a step is what was read.
 fn append(to: i32, from: i32, most: usize) {
     let mut block = io::buffer();
     let mut left = most;
@@ -58,35 +56,23 @@ fn play_cut(rt: &impl Files<File = File>, tables: &str, most: usize) -> Result<(
     play_input(rt)
 }
 
-fn read_part(from: i32, bytes: &mut [u8], count: usize) -> usize
-    requires { count ≤ length bytes.old }
-{
-    io::read_full(from, &mut bytes[..count])
-}
-
-fn write_part(to: i32, bytes: &[u8], count: usize)
-    requires { count ≤ length bytes.now }
-{
-    io::write_all(to, &bytes[..count]);
-}
-
 // The next short case, its length before it. Answers whether there was one.
 fn play_next(rt: &impl Files<File = File>, from: i32, tables: &str) -> Result<bool> {
     let mut head = [0u8; 4];
     if io::read_full(from, &mut head) < 4 {
         return Ok(false);
     }
-    let count = number::four(&head, 0) as usize;
-    if 131_072 < count {
+    let count = number::at::<u32>(&head, 0) as usize;
+    let mut bytes = [0u8; 131_072];
+    let Some(case) = bytes.get_mut(..count) else {
         return Ok(false);
-    }
-    let mut bytes = [0u8; 131072];
-    if read_part(from, &mut bytes, count) < count {
+    };
+    if io::read_full(from, case) < count {
         return Ok(false);
     }
     let to = File::create(rt, "input")?;
     append_file(rt, &to, tables, 1_000_000)?;
-    write_part(to.as_raw_fd(), &bytes, count);
+    io::write_all(to.as_raw_fd(), case);
     drop(to);
     play_input(rt)?;
     Ok(true)
@@ -94,32 +80,36 @@ fn play_next(rt: &impl Files<File = File>, from: i32, tables: &str) -> Result<bo
 
 fn play_each(rt: &impl Files<File = File>, tables: &str, cases: &str) -> Result<()> {
     let from = File::open(rt, cases)?;
-    let mut count: usize = 0;
-    while count < 10_000 {
+    for _ in 0..10_000 {
         if !play_next(rt, from.as_raw_fd(), tables)? {
-            return Ok(());
+            break;
         }
-        count += 1;
     }
     Ok(())
 }
 
+// Which cases are played over which tables, in this order.
+const PLAYED: [(&str, &str); 12] = [
+    ("demo", "cases"),
+    ("standard", "cases"),
+    ("mild", "cases"),
+    ("random", "cases"),
+    ("demo", "starts"),
+    ("standard", "starts"),
+    ("standard", "japanese"),
+    ("mild", "japanese"),
+    ("random", "japanese"),
+    ("demo", "reasons"),
+    ("standard", "reasons"),
+    ("ascii255", "reasons"),
+];
+
 fn main(rt: HostRuntime) -> Result<()> {
-    play_file(&rt, "demo", "cases")?;
-    play_file(&rt, "standard", "cases")?;
-    play_file(&rt, "mild", "cases")?;
-    play_file(&rt, "random", "cases")?;
-    play_file(&rt, "demo", "starts")?;
-    play_file(&rt, "standard", "starts")?;
-    play_file(&rt, "standard", "japanese")?;
-    play_file(&rt, "mild", "japanese")?;
-    play_file(&rt, "random", "japanese")?;
-    play_file(&rt, "demo", "reasons")?;
-    play_file(&rt, "standard", "reasons")?;
-    play_file(&rt, "ascii255", "reasons")?;
-    play_cut(&rt, "demo", 0)?;
-    play_cut(&rt, "demo", 1)?;
-    play_cut(&rt, "demo", 375_027)?;
-    play_cut(&rt, "demo", 375_028)?;
+    for (tables, cases) in PLAYED {
+        play_file(&rt, tables, cases)?;
+    }
+    for most in [0, 1, 375_027, 375_028] {
+        play_cut(&rt, "demo", most)?;
+    }
     play_each(&rt, "demo", "malformed")
 }

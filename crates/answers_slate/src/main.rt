@@ -16,22 +16,30 @@ fn show(rt: &impl Files<File = File>, name: &str) -> std::io::Result<()> {
     Ok(())
 }
 
+// The stored labels, in this order.
+const LABELS: [&str; 17] = [
+    "document-01",
+    "nothing",
+    "ascii",
+    "one-byte",
+    "escape",
+    "longest",
+    "too-long",
+    "leader-none",
+    "leader-utf-8",
+    "leader-euc-kr",
+    "leader-big5",
+    "leader-shift_jis",
+    "korean",
+    "chinese",
+    "japanese",
+    "hebrew",
+    "arabic",
+];
+
 fn main(rt: HostRuntime) -> std::io::Result<()> {
-    show(&rt, "document-01")?;
-    show(&rt, "nothing")?;
-    show(&rt, "ascii")?;
-    show(&rt, "one-byte")?;
-    show(&rt, "escape")?;
-    show(&rt, "longest")?;
-    show(&rt, "too-long")?;
-    show(&rt, "leader-none")?;
-    show(&rt, "leader-utf-8")?;
-    show(&rt, "leader-euc-kr")?;
-    show(&rt, "leader-big5")?;
-    show(&rt, "leader-shift_jis")?;
-    show(&rt, "korean")?;
-    show(&rt, "chinese")?;
-    show(&rt, "japanese")?;
-    show(&rt, "hebrew")?;
-    show(&rt, "arabic")
+    for label in LABELS {
+        show(&rt, label)?;
+    }
+    Ok(())
 }

@@ -1,8 +1,7 @@
 -- The Arabic-French machine: what one byte does, a part of a chunk, and the close.
 use Rattle.std.specs.Prelude.{Bool, true, false, cond, not, ◌&&◌, List, ℕ, ◌%◌, eqb, ℤ, pos, ◌+ℤ◌}
-use Rattle.laws.specs.Answer.{Answer, ran, unfit, answered, BoundedBy}
-use Rattle.laws.specs.Run.{Outcome, none, live}
-use Rattle.laws.specs.declared.Reason.TheVariants.{Class255}
+use Rattle.laws.specs.Answer.{Ran}
+use Rattle.laws.specs.Run.{Outcome, live}
 use Rattle.octets.specs.Octets.{ascii}
 use Rattle.weights.specs.Weights.{weight_of, case}
 use Rattle.single.specs.Class.{class_of, caseless_of, is_capital, latin_letter, alphabetic, unless255}
@@ -15,10 +14,6 @@ use Rattle.single.specs.Words.{word_of, longest_of}
 use Rattle.arabic_french.specs.declared.ArabicFrench.{ArabicFrench}
 use Rattle.arabic_french.specs.declared.LatinCaseState.{LatinCaseState}
 use Rattle.arabic_french.specs.declared.LatinCaseState.TheVariants.{Space, Upper, Lower, AllCaps}
-use Rattle.arabic_french.specs.declared.Ran.{Ran}
-use Rattle.arabic_french.specs.declared.Ran.TheVariants.{Live, Dropped, Unfit}
-use Rattle.arabic_french.specs.declared.Stepped.{Stepped}
-use Rattle.arabic_french.specs.declared.Stepped.TheVariants.{Live as SteppedLive, Dropped as SteppedDropped}
 
 abbrev pub fresh : ArabicFrench
 fresh = record { prev = 0; case_state = Space; prev_ascii = true; current_word_len = 0; longest_word = 0 }
@@ -72,25 +67,8 @@ abbrev pub sound_b : ℕ → ArabicFrench → Bool
 sound_b n m = common_b n m.prev m.current_word_len m.longest_word
 
 -- ---- the answers
-abbrev pub answer_of : Ran → Answer ArabicFrench
-answer_of (Live m s) = ran (live m s)
-answer_of (Dropped d n) = ran (none d)
-answer_of Unfit = unfit
+abbrev pub ran_of : Lent → ArabicFrench → List ℕ → Ran ArabicFrench
+ran_of t m xs = ran_by step_of (sound_b room) t m xs
 
-abbrev pub took_of : Stepped → Answer ArabicFrench
-took_of (SteppedLive m s) = ran (live m s)
-took_of SteppedDropped = ran (none Class255)
-
--- what happened, and where
-abbrev pub ran_as : ℕ → Outcome ArabicFrench → Ran
-ran_as at o = answered Live Dropped at o
-
-unfoldable pub ran_of : Lent → ArabicFrench → List ℕ → Ran
-ran_of t m xs = ran_by step_of (sound_b room) Live Dropped Unfit t m xs
-
-unfoldable pub closed_of : Lent → ArabicFrench → Ran
-closed_of t m = closed_by step_of (sound_b room) Live Dropped Unfit t m
-
--- a live answer's score changes by at most c
-abbrev pub Bounded : ℕ → Ran → Type 0
-Bounded c r = BoundedBy c (answer_of r)
+abbrev pub closed_of : Lent → ArabicFrench → Ran ArabicFrench
+closed_of t m = closed_by step_of (sound_b room) t m

@@ -1,24 +1,23 @@
 -- The code's own step. It leaves the flag of its byte to be found from the byte itself, and the case of the letters as it was
 -- where the byte is no Latin letter, since that is found from the class. No public contract cites it.
-use Rattle.std.specs.Prelude.{◌≡◌, refl, Bool, true, false, cond, List, ℕ, ◌+◌, eqb, ℤ, pos, ◌+ℤ◌, get_or}
-use Rattle.std.proofs.Common.{sym}
+use Rattle.std.specs.Prelude.{◌≡◌, ◌≢◌, refl, Bool, true, false, cond, List, ℕ, ◌+◌, ◌≤◌, eqb, ℤ, pos, ◌+ℤ◌, nat_abs, get_or, Some}
+use Rattle.std.proofs.Common.{ne_eqb}
 use Rattle.std.proofs.Math.IntN.{+ℤ_idr}
-use borrow.Author.Tests.{ne_eqb}
-use Rattle.laws.specs.Run.{Outcome, live, none}
-use Rattle.laws.specs.declared.Reason.{Reason}
+use Rattle.laws.specs.Run.{none}
 use Rattle.laws.specs.declared.Reason.TheVariants.{Class255}
 use Rattle.octets.specs.Octets.{ascii}
-use Rattle.single.specs.Before.{ascii_before, ascii_pair_at, not_first, one_back}
-use Rattle.single.specs.Class.{class_of, caseless_of, is_capital, latin_letter, alphabetic, alphabetic_of, unless255}
-use Rattle.single.specs.ClassLaws.{live_is, none_is}
+use Rattle.weights.specs.Weights.{per_byte}
+use Rattle.single.specs.Before.{ascii_before, not_first, one_back}
+use Rattle.single.specs.Class.{class_of, caseless_of, latin_letter, alphabetic, alphabetic_of}
 use Rattle.single.specs.Lent.{Lent}
 use Rattle.single.specs.Pair.{ascii_pair, gain_by}
-use Rattle.single.specs.Rest.{Rests, rest_next}
+use Rattle.single.specs.Rest.{Rests, rest_start, rest_next}
+use Rattle.single.specs.Steps.{Steps, Starts}
 use Rattle.single.specs.Words.{word_of, longest_of}
-use Rattle.arabic_french.specs.ArabicFrench.{capital_after, case_of, case_gain_of, next_of, step_of}
+use Rattle.arabic_french.specs.ArabicFrench.{case_of, case_gain_of, step_of}
 use Rattle.arabic_french.specs.declared.ArabicFrench.{ArabicFrench}
 use Rattle.arabic_french.specs.declared.LatinCaseState.{LatinCaseState}
-use Rattle.arabic_french.specs.declared.LatinCaseState.TheVariants.{Space, Lower}
+use Rattle.arabic_french.specs.declared.LatinCaseState.TheVariants.{Space}
 
 -- the case that counts after a byte of that class
 abbrev pub held_case : ℕ → LatinCaseState → LatinCaseState
@@ -36,9 +35,6 @@ flagged isAscii state m =
       current_word_len = m.current_word_len;
       longest_word = m.longest_word;
     }
-
-abbrev pub pair_at : List ℕ → ℕ → ArabicFrench → Bool
-pair_at xs i m = ascii_pair_at xs i m.prev_ascii
 
 -- the record at byte i of a part
 abbrev pub noted : List ℕ → ℕ → ArabicFrench → ArabicFrench
@@ -70,59 +66,38 @@ abbrev pub latin_gain_by : List ℕ → List ℤ → List ℤ → ArabicFrench �
 latin_gain_by marks pairs weights m b class =
     gain_from marks pairs weights m b latin_letter +ℤ case_gain_of weights (ascii_pair m.prev_ascii b) m.case_state class
 
--- a state that was left as it was does not count
-held : (x : Bool) (s stale : LatinCaseState) → cond x (cond x (cond x s Space) stale) Space ≡ cond x s Space
-held true s stale = refl
-held false s stale = refl
+-- where no word has begun, the class of the byte before is not alphabetic
+abbrev pub RestsAt : Lent → ℕ → ArabicFrench → Type 0
+RestsAt t i m = Rests t.marks i m.current_word_len m.prev
+
+pub starts : Starts noted RestsAt
+starts = record { same = λ xs m. refl; rests = λ t m. rest_start t.marks m.current_word_len m.prev }
+
+-- what a step leaves is the record at the next byte
+pub noted_next : (xs : List ℕ) (i : ℕ) (n : ArabicFrench) → noted xs (i + 1) n ≡ flagged (ascii (get_or xs i 0)) (held_case n.prev n.case_state) n
+noted_next xs i n = rw (not_first i, one_back i)
 
 no_case : (x : Bool) (g : ℤ) → g +ℤ cond x (pos 0) (pos 0) ≡ g
 no_case true g = +ℤ_idr g
 no_case false g = +ℤ_idr g
 
-module _ (t : Lent) (m : ArabicFrench) (stale : LatinCaseState) (b : ℕ) where
-  abbrev state_of : LatinCaseState
-  state_of = cond (eqb (caseless_of t b) latin_letter) (case_of m.case_state (class_of t b)) stale
+-- byte i of a part
+module _ (t : Lent) (xs : List ℕ) (i : ℕ) (m : ArabicFrench) where
+  pub step_drops : class_of t (get_or xs i 0) ≡ 255 → step_of t (noted xs i m) (get_or xs i 0) ≡ none Class255
+  unfolding step_of
+  step_drops e = rw e
 
-  abbrev left_of : ArabicFrench
-  left_of = left_by m state_of (caseless_of t b) (alphabetic t b)
+  -- the case of the letters was left as it was, and does not count
+  pub step_leaves : (a : Bool) → (class_of t (get_or xs i 0) ≢ 255) → (caseless_of t (get_or xs i 0) ≢ latin_letter) → alphabetic t (get_or xs i 0) ≡ a → (r : ArabicFrench × ℤ) → r.0 ≡ left_by m m.case_state (caseless_of t (get_or xs i 0)) a → r.1 ≡ gain_from t.marks t.pairs t.weights (noted xs i m) (get_or xs i 0) (caseless_of t (get_or xs i 0)) → nat_abs r.1 ≤ per_byte → Steps step_of noted RestsAt t xs i m (Some r)
+  unfolding step_of
+  step_leaves a f l e r p q h =
+      rw
+      (ne_eqb _ _ f, ne_eqb _ _ l, e, noted_next xs i r.0, p, q, ne_eqb _ _ l, no_case (ascii_pair (noted xs i m).prev_ascii (get_or xs i 0)) (gain_from t.marks t.pairs t.weights (noted xs i m) (get_or xs i 0) (caseless_of t (get_or xs i 0))))
+      (refl, (rest_next t.marks (i + 1) m.current_word_len (caseless_of t (get_or xs i 0)) a e, rw q at h))
 
-  unfoldable pub rough_of : Outcome ArabicFrench
-  rough_of =
-      unless255 t b (live left_of (gain_from t.marks t.pairs t.weights m b (caseless_of t b) +ℤ case_gain_of t.weights (ascii_pair m.prev_ascii b) m.case_state (class_of t b)))
-
-  -- ---- the two ways
-  pub rough_latin : (class_of t b ≡ 255 → ⊥) → caseless_of t b ≡ latin_letter → rough_of ≡ live (latin_by t.marks m (class_of t b)) (latin_gain_by t.marks t.pairs t.weights m b (class_of t b))
-  unfolding rough_of
-  rough_latin n e = rw (ne_eqb _ _ n, e)
-
-  pub rough_other : (class_of t b ≡ 255 → ⊥) → (caseless_of t b ≡ latin_letter → ⊥) → rough_of ≡ live (left_by m stale (caseless_of t b) (alphabetic t b)) (gain_from t.marks t.pairs t.weights m b (caseless_of t b))
-  unfolding rough_of
-  rough_other n e = rw (ne_eqb _ _ n, ne_eqb _ _ e, no_case (ascii_pair m.prev_ascii b) (gain_from t.marks t.pairs t.weights m b (caseless_of t b)))
-
-  -- ---- it is the machine's step
-  case_held : held_case (caseless_of t b) state_of ≡ case_of m.case_state (class_of t b)
-  case_held = held (eqb (caseless_of t b) latin_letter) (cond (is_capital (class_of t b)) (capital_after m.case_state) Lower) stale
-
-  live_at : (x : Bool) (n : ArabicFrench) (k g : ℤ) → cond x (none Class255) (live left_of k) ≡ live n g → cond x (none Class255) (live (next_of t m b) k) ≡ live (flagged (ascii b) (held_case n.prev n.case_state) n) g
-  live_at true n k g e = cc
-  live_at false n k g e =
-      let q : left_of ≡ n = cc in
-      let z : k ≡ g = cc in
-      rw (sym q, sym z, case_held)
-
-  pub rough_live : {n : ArabicFrench} {g : ℤ} → rough_of ≡ live n g → step_of t m b ≡ live (flagged (ascii b) (held_case n.prev n.case_state) n) g
-  unfolding rough_of step_of
-  rough_live {n} {g} e = live_at (eqb (class_of t b) 255) n _ g e
-
-  pub rough_none : {d : Reason} → rough_of ≡ none d → step_of t m b ≡ none d
-  unfolding rough_of step_of
-  rough_none e = none_is t b left_of (next_of t m b) _ _ e
-
-  -- where no word has begun, the byte's class is not alphabetic
-  pub rough_rests : (i : ℕ) {n : ArabicFrench} {g : ℤ} → rough_of ≡ live n g → Rests t.marks i n.current_word_len n.prev
-  unfolding rough_of
-  rough_rests i {n} {g} e = rw (live_is t b left_of n _ g e) (rest_next t.marks i m.current_word_len (caseless_of t b) (alphabetic t b) refl)
-
--- what the step before leaves is the record at the next byte
-pub noted_next : (xs : List ℕ) (i : ℕ) (n : ArabicFrench) → noted xs (i + 1) n ≡ flagged (ascii (get_or xs i 0)) (held_case n.prev n.case_state) n
-noted_next xs i n = rw (not_first i, one_back i)
+  pub latin_leaves : (class_of t (get_or xs i 0) ≢ 255) → caseless_of t (get_or xs i 0) ≡ latin_letter → (r : ArabicFrench × ℤ) → r.0 ≡ latin_by t.marks (noted xs i m) (class_of t (get_or xs i 0)) → r.1 ≡ latin_gain_by t.marks t.pairs t.weights (noted xs i m) (get_or xs i 0) (class_of t (get_or xs i 0)) → nat_abs r.1 ≤ per_byte → Steps step_of noted RestsAt t xs i m (Some r)
+  unfolding step_of
+  latin_leaves f l r p q h =
+      rw
+      (ne_eqb _ _ f, l, noted_next xs i r.0, p, q, l)
+      (refl, (rest_next t.marks (i + 1) m.current_word_len latin_letter (alphabetic_of t.marks latin_letter) refl, rw (q, l) at h))

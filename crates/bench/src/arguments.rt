@@ -4,13 +4,9 @@ use std::rt::Env;
 
 // Arguments that are numbers, in decimal, of at most six digits.
 fn decimal(digits: &[u8]) -> usize {
-    let mut n: usize = 0;
-    let mut i: usize = 0;
-    while i < digits.len() {
-        n = n % 100000 * 10 + (digits[i] % 16) as usize;
-        i += 1;
-    }
-    n
+    digits
+        .iter()
+        .fold(0, |n, digit| n % 100_000 * 10 + usize::from(digit % 16))
 }
 
 // How many bytes of an argument stand in the buffer: 0 where there is none, or it is longer.

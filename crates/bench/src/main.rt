@@ -20,10 +20,7 @@ fn scanned_to(chunk: &[u8]) -> u64 {
 }
 
 fn contains(label: &[u8]) -> u64 {
-    if octets::contains_upper_case_period_or_non_ascii(label) {
-        return 1;
-    }
-    0
+    u64::from(octets::contains_upper_case_period_or_non_ascii(label))
 }
 
 fn print(answer: u64) {
@@ -31,29 +28,26 @@ fn print(answer: u64) {
     io::write_all(STDOUT_FILENO, b"\n");
 }
 
-#[derive(Clone, Copy)]
+#[derive(Clone, Copy, PartialEq, Eq)]
 enum Thing {
     Count,
     Scan,
     Contains,
     All,
-    Unknown,
 }
 
-fn named(name: &[u8]) -> Thing {
-    if check::same(name, b"count_non_ascii") {
-        return Thing::Count;
-    }
-    if check::same(name, b"scan") {
-        return Thing::Scan;
-    }
-    if check::same(name, b"contains") {
-        return Thing::Contains;
-    }
-    if check::same(name, b"all") {
-        return Thing::All;
-    }
-    Thing::Unknown
+const THINGS: [(&[u8], Thing); 4] = [
+    (b"count_non_ascii", Thing::Count),
+    (b"scan", Thing::Scan),
+    (b"contains", Thing::Contains),
+    (b"all", Thing::All),
+];
+
+fn named(name: &[u8]) -> Option<Thing> {
+    THINGS
+        .iter()
+        .find(|(known, _)| check::same(known, name))
+        .map(|(_, thing)| *thing)
 }
 
 // A program can't end with a status of its own: what is not known prints nothing on standard output.
@@ -64,6 +58,7 @@ fn unknown() {
     );
 }
 
+// Each case calls what is its own: a table of functions would have to give them one signature.
 fn run(rt: &(impl Env + Files<File = File>), what: Thing) {
     let mut bytes = [0u8; 262144];
     let n = io::read_full(STDIN_FILENO, &mut bytes);
@@ -72,17 +67,14 @@ fn run(rt: &(impl Env + Files<File = File>), what: Thing) {
         Thing::Scan => print(scanned_to(&bytes[..n])),
         Thing::Contains => print(contains(&bytes[..n])),
         Thing::All => all::run(rt, &bytes[..n]),
-        Thing::Unknown => unknown(),
     }
 }
 
 fn main(rt: HostRuntime) {
     let mut name = [0u8; 32];
     let k = arguments::argument(&rt, 1, &mut name);
-    let what = named(&name[..k]);
-    if let Thing::Unknown = what {
-        unknown();
-        return;
+    match named(&name[..k]) {
+        Some(what) => run(&rt, what),
+        None => unknown(),
     }
-    run(&rt, what);
 }

@@ -1,6 +1,6 @@
 -- What a Big5 record can hold, what a run and a close give, for every record and every lent list.
-use Rattle.std.specs.Prelude.{◌≡◌, Bool, true, cond, ◌&&◌, List, ℕ, ◌≤◌, leb, eqb, ℤ, nat_abs, length}
-use Rattle.laws.specs.Answer.{Answer, ran, unfit, answered, answered_if, Told, BoundedBy}
+use Rattle.std.specs.Prelude.{◌≡◌, Bool, true, cond, ◌&&◌, List, ℕ, ◌≤◌, leb, eqb, ℤ, nat_abs, length, Option, Some, None}
+use Rattle.laws.specs.Answer.{Ran, answered, tested, Told}
 use Rattle.laws.specs.Run.{Outcome, none, live, alive, run, last_at}
 use Rattle.laws.specs.declared.Reason.TheVariants.{CutAtClose}
 use Rattle.pairs.specs.Pairs.{is_lead_or_none, reason_by, released_of, small_held_b}
@@ -10,10 +10,6 @@ use Rattle.lengths.specs.Lengths.{weight_count, big5_count}
 use Rattle.big5.specs.Scoring.{lent, scale_of, step_of}
 use Rattle.big5.specs.declared.Big5.{Big5}
 use Rattle.big5.specs.declared.Scale.{Scale}
-use Rattle.big5.specs.declared.Stepped.{Stepped}
-use Rattle.big5.specs.declared.Stepped.TheVariants.{Live as SteppedLive, Dropped as SteppedDropped}
-use Rattle.big5.specs.declared.Ran.{Ran}
-use Rattle.big5.specs.declared.Ran.TheVariants.{Live, Dropped, Unfit}
 
 -- a record that no bound of n bytes excludes; Big5 counts nothing
 pub record Sound (n : ℕ) (m : Big5) : Type 0 where
@@ -33,31 +29,15 @@ pub record SmallScale (w : Scale) : Type 0 where
   pub pua : nat_abs w.pua ≤ term
   pub extension : nat_abs w.extension ≤ term
 
--- ---- answers, as outcomes
--- of a step, by the lead before the byte
-abbrev pub out_of : ℕ → Stepped → Outcome Big5
-out_of before (SteppedLive m s) = live m s
-out_of before SteppedDropped = none (reason_by before)
-
--- of a step that stays alive, whatever the lead before the byte
-abbrev pub Gives : Stepped → Outcome Big5 → Type 0
-Gives r o = (before : ℕ) → out_of before r ≡ o
-
-abbrev pub answer_of : Ran → Answer Big5
-answer_of (Live m s) = ran (live m s)
-answer_of (Dropped d at) = ran (none d)
-answer_of Unfit = unfit
-
-abbrev pub ran_as : ℕ → Outcome Big5 → Ran
-ran_as at o = answered Live Dropped at o
-
--- a live answer's score changes by at most c
-abbrev pub Bounded : ℕ → Ran → Type 0
-Bounded c r = BoundedBy c (answer_of r)
+-- ---- answers
+-- of a step as an outcome, by the lead before the byte
+abbrev pub out_of : ℕ → Option (Big5 × ℤ) → Outcome Big5
+out_of before (Some a) = live a.0 a.1
+out_of before None = none (reason_by before)
 
 -- a live answer came of weights of 32 bits
-abbrev pub Weighed : List ℤ → Ran → Type 0
-Weighed weights r = Told (λ m s. SmallScale (scale_of weights)) (answer_of r)
+abbrev pub Weighed : List ℤ → Ran Big5 → Type 0
+Weighed weights r = Told (λ m s. SmallScale (scale_of weights)) r
 
 -- ---- a run and a close
 -- the record is one that Big5 can hold, the part no longer than a stream, the lent lengths exact
@@ -71,12 +51,12 @@ pub record Ready (index : List ℕ) (weights : List ℤ) (m : Big5) (xs : List �
   pub weights_length : length weights ≡ weight_count
 
 -- the score starts from 0: what a run gives is its change
-unfoldable pub ran_of : List ℕ → List ℤ → Big5 → List ℕ → Ran
-ran_of index weights m xs = let step = step_of (lent index (scale_of weights)) in answered_if Live Dropped Unfit (ready_b index weights m xs) (last_at step (alive m) xs) (run step (alive m) xs)
+unfoldable pub ran_of : List ℕ → List ℤ → Big5 → List ℕ → Ran Big5
+ran_of index weights m xs = let step = step_of (lent index (scale_of weights)) in tested (ready_b index weights m xs) (answered (last_at step (alive m) xs) (run step (alive m) xs))
 
 -- the end of the stream: none where a lead is pending, a cut at no byte; a held score counts nothing, and stays
 abbrev pub close_of : Big5 → Outcome Big5
 close_of m = cond (eqb m.lead 0) (alive m) (none CutAtClose)
 
-unfoldable pub closed_of : Big5 → Ran
-closed_of m = answered_if Live Dropped Unfit (sound_b limit m) 0 (close_of m)
+unfoldable pub closed_of : Big5 → Ran Big5
+closed_of m = tested (sound_b limit m) (answered 0 (close_of m))

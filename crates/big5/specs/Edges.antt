@@ -1,5 +1,5 @@
 -- The edge lines on Big5, from fresh, for all lent data that meets the line's premise.
-use Rattle.std.specs.Prelude.{◌≡◌, true, false, [], ◌∷◌, ℕ, ◌≤◌, ◌+ℤ◌, get_or}
+use Rattle.std.specs.Prelude.{◌≡◌, true, false, [], ◌∷◌, ℕ, ◌≤◌, ◌+ℤ◌, get_or, ℤ, Option, None}
 use Rattle.std.proofs.Math.Path.{refl, ap}
 use Rattle.std.proofs.Common.{sym, ◌∙◌, arith, ne_eqb, lt-ltb, le-ltb}
 use Rattle.std.proofs.Math.IntN.{pos, +ℤ_idl, +ℤ_idr}
@@ -14,8 +14,6 @@ use Rattle.pairs.specs.Events.{points_as, event_of}
 use Rattle.pairs.specs.Ranges.{inside, below, above, range_true}
 use Rattle.pairs.specs.SequencesLaws.{pair_seen}
 use Rattle.pairs.specs.declared.Event.TheVariants.{Point}
-use Rattle.pairs.specs.declared.Held.{Held}
-use Rattle.pairs.specs.declared.Held.TheVariants.{Nothing}
 use Rattle.big5_decoder.specs.Standard.{is_trail, layout, is_mapped, pointer_of, points_of, pair_of, decode_of}
 use Rattle.big5_decoder.specs.SpecialsLaws.{specials}
 use Rattle.big5_decoder.proofs.StandardLaws.{mapped_pair}
@@ -28,7 +26,7 @@ use Rattle.big5.specs.declared.Scale.{Scale}
 
 -- a record with nothing pending and nothing held
 abbrev pub rest : LatinCj → ℕ → Big5
-rest prev byte = record { lead = 0; prev = prev; prev_byte = byte; held = Nothing }
+rest prev byte = record { lead = 0; prev = prev; prev_byte = byte; held = None }
 
 module _ (t : Lent) where
   -- FD FF: the extension weight twice, then Other
@@ -53,12 +51,12 @@ module _ (t : Lent) where
 
   -- ---- states that no stream leads to, and what the rules' widths take in
   -- a lead A4 after a byte 00, then an unmapped A1: none, for the rule looks at the byte before
-  pub a4_after_00 : (prev : LatinCj) (held : Held) → is_mapped (get_or t.index (pointer_of 0xA4 0xA1) 0) ≡ false → step_of t (record { lead = 0xA4; prev = prev; prev_byte = 0x00; held = held }) 0xA1 ≡ none BadSecondByte
+  pub a4_after_00 : (prev : LatinCj) (held : Option ℤ) → is_mapped (get_or t.index (pointer_of 0xA4 0xA1) 0) ≡ false → step_of t (record { lead = 0xA4; prev = prev; prev_byte = 0x00; held = held }) 0xA1 ≡ none BadSecondByte
   unfolding step_of decode_of points_of indexed returned vars_of event_of points_as error_of stray_of any
   a4_after_00 prev held e = rw e
 
   -- a pair that ends in FD, then FF alone: the extension weight twice, and what was held is dropped
-  pub after_fd_ff : (prev : LatinCj) (held : Held) → step_of t (record { lead = 0; prev = prev; prev_byte = 0xFD; held = held }) 0xFF ≡ live (rest Other 0xFF) (t.scale.extension +ℤ t.scale.extension)
+  pub after_fd_ff : (prev : LatinCj) (held : Option ℤ) → step_of t (record { lead = 0; prev = prev; prev_byte = 0xFD; held = held }) 0xFF ≡ live (rest Other 0xFF) (t.scale.extension +ℤ t.scale.extension)
   unfolding step_of decode_of first vars_of event_of error_of stray_of extension_of any
   after_fd_ff prev held = refl
 

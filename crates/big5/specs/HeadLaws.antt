@@ -1,5 +1,5 @@
 -- What Big5 forgets.
-use Rattle.std.specs.Prelude.{◌≡◌, refl, Bool, cond, ℕ, ◌<◌, pos}
+use Rattle.std.specs.Prelude.{◌≡◌, refl, Bool, cond, ℕ, ◌<◌, pos, None}
 use Rattle.std.proofs.Math.Path.{sym}
 use Rattle.std.proofs.Common.{ap, ◌∙◌, arith}
 use Rattle.std.proofs.Math.Bool.{true, false}
@@ -13,7 +13,6 @@ use Rattle.pairs.specs.Pairs.{decoded}
 use Rattle.pairs.specs.Ranges.{below}
 use Rattle.pairs.specs.SequencesLaws.{first_ascii}
 use Rattle.pairs.specs.declared.Event.TheVariants.{Point}
-use Rattle.pairs.specs.declared.Held.TheVariants.{Nothing}
 use Rattle.big5_decoder.specs.Standard.{decode_of}
 use Rattle.big5.specs.Scoring.{is_hanzi, is_distinct, beside_hanzi, letter_of, scored, unit_of, point_of, after_byte, fresh, Lent, step_of}
 use Rattle.big5.specs.Ways.{step_on}
@@ -27,7 +26,7 @@ ascii_kind isLetter = cond isLetter AsciiLetter Other
 
 -- of ASCII bytes the record holds the last one
 abbrev pub holding : ℕ → Big5
-holding b = record { lead = 0; prev = ascii_kind (letter b); prev_byte = b; held = Nothing }
+holding b = record { lead = 0; prev = ascii_kind (letter b); prev_byte = b; held = None }
 
 no_hanzi : (u : ℕ) → u < 0x80 → is_hanzi u ≡ false
 no_hanzi u h = rw (below 0x3400 0x9FFF u (omega arith), below 0xF900 0xFAFF u (omega arith))
@@ -41,12 +40,12 @@ module _ (w : Scale) where
   none_beside true = refl
   none_beside false = refl
 
-  unit_ascii : (k b : ℕ) (t : Bool) → b < 0x80 → letter b ≡ t → unit_of w (holding k) b ≡ scored (ascii_kind t) Nothing (pos 0)
+  unit_ascii : (k b : ℕ) (t : Bool) → b < 0x80 → letter b ≡ t → unit_of w (holding k) b ≡ scored (ascii_kind t) None (pos 0)
   unfolding unit_of letter_of
   unit_ascii k b true h e = rw (e, none_beside (letter k))
   unit_ascii k b false h e = rw (e, no_hanzi b h, no_distinct b h, lt-ltb b 0x80 h)
 
-  point_ascii : (k b : ℕ) → b < 0x80 → point_of w (holding k) b ≡ scored (ascii_kind (letter b)) Nothing (pos 0)
+  point_ascii : (k b : ℕ) → b < 0x80 → point_of w (holding k) b ≡ scored (ascii_kind (letter b)) None (pos 0)
   unfolding point_of
   point_ascii k b h = rw (lt-ltb b 0x10000 (omega arith)) (unit_ascii k b (letter b) h refl)
 

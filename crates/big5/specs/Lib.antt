@@ -1,8 +1,6 @@
 pub mod Scoring
 pub mod Big5
 pub mod Ways
-pub mod Big5Laws
-pub mod HeldLaws
 pub mod HeadLaws
 pub mod Edges
 pub mod CloseLaws

@@ -1,13 +1,11 @@
 -- How Big5 is scored: what each event does to the kind before, the held score and the score.
-use Rattle.std.specs.Prelude.{Bool, true, false, cond, not, ◌&&◌, ◌||◌, List, [], ◌∷◌, ℕ, ltb, eqb, ℤ, pos, ◌+ℤ◌}
+use Rattle.std.specs.Prelude.{Bool, true, false, cond, not, ◌&&◌, ◌||◌, List, [], ◌∷◌, ℕ, ltb, eqb, ℤ, pos, ◌+ℤ◌, Option, Some, None}
 use Rattle.laws.specs.Lists.{is_in}
 use Rattle.laws.specs.Run.{Outcome, none, live}
 use Rattle.octets.specs.Octets.{between, ascii, letter}
 use Rattle.pairs.specs.Pairs.{is_lead, is_held_lead, reason_by, released_of}
 use Rattle.pairs.specs.declared.Event.{Event}
 use Rattle.pairs.specs.declared.Event.TheVariants.{Pending, Point, Two, Error}
-use Rattle.pairs.specs.declared.Held.{Held}
-use Rattle.pairs.specs.declared.Held.TheVariants.{Nothing, Score}
 use Rattle.weights.specs.Weights.{weight_of, cjk_latin_adjacency, cj_punctuation, cjk_other, big5_level1, big5_other, big5_pua, big5_extension}
 use Rattle.big5_decoder.specs.Standard.{is_trail, decode_of}
 use Rattle.big5.specs.declared.Big5.{Big5}
@@ -53,7 +51,7 @@ beside_hanzi w Cj = w.adjacency
 beside_hanzi w Other = pos 0
 
 -- the kind, what is held, and the score's change after a byte
-abbrev pub scored : LatinCj → Held → ℤ → Scored
+abbrev pub scored : LatinCj → Option ℤ → ℤ → Scored
 scored prev held gain = record { prev = prev; held = held; gain = gain }
 
 -- the score of a Hanzi waits for what follows
@@ -67,18 +65,18 @@ hanzi_weight w byte = cond (between 0xA4 0xC6 byte) w.level1 w.hanzi
 module _ (w : Scale) (m : Big5) where
   -- a letter discards what is held
   unfoldable pub letter_of : Scored
-  letter_of = scored AsciiLetter Nothing (beside_hanzi w m.prev)
+  letter_of = scored AsciiLetter None (beside_hanzi w m.prev)
 
   -- a Hanzi releases what is held; its own score is added, or held in turn
   unfoldable pub hanzi_of : ℤ → Scored
   hanzi_of own =
       cond (holds_of m)
-      (scored Cj (Score own) (released_of m.held +ℤ beside_of w m.prev))
-      (scored Cj Nothing (released_of m.held +ℤ beside_of w m.prev +ℤ own))
+      (scored Cj (Some own) (released_of m.held +ℤ beside_of w m.prev))
+      (scored Cj None (released_of m.held +ℤ beside_of w m.prev +ℤ own))
 
 -- anything else that is not ASCII releases what is held
 unfoldable pub other_of : Big5 → ℤ → Scored
-other_of m own = scored Other Nothing (released_of m.held +ℤ own)
+other_of m own = scored Other None (released_of m.held +ℤ own)
 
 module _ (w : Scale) (m : Big5) where
   -- one unit, in the Rust's order
@@ -87,7 +85,7 @@ module _ (w : Scale) (m : Big5) where
       cond (letter u) (letter_of w m)
       (cond (is_hanzi u) (hanzi_of w m (hanzi_weight w m.prev_byte))
       (cond (is_distinct u) (other_of m w.punctuation)
-      (cond (ascii u) (scored Other Nothing (pos 0)) (other_of m w.other))))
+      (cond (ascii u) (scored Other None (pos 0)) (other_of m w.other))))
 
   -- a code point: one unit of UTF-16; or two, which is a Hanzi: of plane two the Standard's index has only Hong Kong's
   unfoldable pub point_of : ℕ → Scored
@@ -96,13 +94,13 @@ module _ (w : Scale) (m : Big5) where
   -- a pair in Big5's range that is not mapped: private use, where other extensions (Big5-UAO is one) have characters, so that text
   -- with such is not dropped. It does what a Hanzi does
   unfoldable pub unmapped_of : Scored
-  unmapped_of = scored Cj Nothing (released_of m.held +ℤ w.pua +ℤ beside_of w m.prev)
+  unmapped_of = scored Cj None (released_of m.held +ℤ w.pua +ℤ beside_of w m.prev)
 
 -- a single-byte extension that is also a lead, and the byte after it: a letter, the extension FF, or other ASCII
 unfoldable pub extension_of : Scale → ℕ → Scored
 extension_of w b =
-    cond (eqb b 0xFF) (scored Other Nothing (w.extension +ℤ w.extension))
-    (cond (letter b) (scored AsciiLetter Nothing w.extension) (scored Other Nothing w.extension))
+    cond (eqb b 0xFF) (scored Other None (w.extension +ℤ w.extension))
+    (cond (letter b) (scored AsciiLetter None w.extension) (scored Other None w.extension))
 
 -- ---- errors, by the byte before and this one
 -- a pair in Big5's range, mapped or not
@@ -129,7 +127,7 @@ module _ (w : Scale) (m : Big5) where
   unfoldable pub stray_of : ℕ → ℕ → ℕ → Outcome Big5
   stray_of lead b length =
       cond (extends m.prev_byte b) (after_byte lead b (extension_of w b))
-      (cond (eqb length 1 && eqb b 0xFF) (after_byte lead b (scored Other Nothing w.extension)) (none (reason_by m.lead)))
+      (cond (eqb length 1 && eqb b 0xFF) (after_byte lead b (scored Other None w.extension)) (none (reason_by m.lead)))
 
   unfoldable pub error_of : ℕ → ℕ → ℕ → Outcome Big5
   error_of lead b length = cond (is_pair m.prev_byte b) (after_byte lead b (unmapped_of w m)) (stray_of lead b length)
@@ -150,7 +148,7 @@ abbrev pub lent : List ℕ → Scale → Lent
 lent index scale = record { index = index; scale = scale }
 
 abbrev pub fresh : Big5
-fresh = record { lead = 0; prev = Other; prev_byte = 0; held = Nothing }
+fresh = record { lead = 0; prev = Other; prev_byte = 0; held = None }
 
 unfoldable pub step_of : Lent → Big5 → ℕ → Outcome Big5
 step_of t m b = on_event t.scale m (decode_of t.index m.lead b).lead b (decode_of t.index m.lead b).event

@@ -1,5 +1,5 @@
 -- What the code's branches need of the definitions: sizes, and sums as the code makes them.
-use Rattle.std.specs.Prelude.{◌≡◌, refl, Bool, true, false, ◌&&◌, ◌⊎◌, ℕ, ◌<◌, ◌≤◌, eqb, ℤ, ◌+ℤ◌}
+use Rattle.std.specs.Prelude.{◌≡◌, refl, Bool, true, false, ◌&&◌, ◌⊎◌, ℕ, ◌<◌, ◌≤◌, eqb, ℤ, ◌+ℤ◌, None}
 use Rattle.std.proofs.Common.{sym, ap, ◌∙◌, inl, inr, arith, SFits}
 use Rattle.std.proofs.Math.IntN.{nat_abs}
 use borrow.Author.Tests.{eq-eqb, ne_eqb, lt-ltb, le-ltb}
@@ -11,7 +11,6 @@ use Rattle.pairs.specs.Pairs.{reason_by, released_of, SmallHeld}
 use Rattle.pairs.specs.Sums.{kept, sum_fits, sum_read, sum3_fits, sum3_read}
 use Rattle.pairs.specs.declared.Decoded.{Decoded}
 use Rattle.pairs.specs.declared.Event.{Event}
-use Rattle.pairs.specs.declared.Held.TheVariants.{Nothing}
 use Rattle.weights.specs.Weights.{term}
 use Rattle.big5_decoder.specs.Standard.{decode_of}
 use Rattle.big5.specs.Scoring.{beside_of, hanzi_weight, scored, extension_of, is_extension, extends, after_byte, stray_of, on_event, Lent, step_of}
@@ -74,7 +73,7 @@ module _ (w : Scale) (m : Big5) (lead b length : ℕ) where
   unfolding stray_of
   stray_extends e = rw e
 
-  pub stray_alone : extends m.prev_byte b ≡ false → length ≡ 1 → b ≡ 0xFF → after_byte lead b (scored Other Nothing w.extension) ≡ stray_of w m lead b length
+  pub stray_alone : extends m.prev_byte b ≡ false → length ≡ 1 → b ≡ 0xFF → after_byte lead b (scored Other None w.extension) ≡ stray_of w m lead b length
   unfolding stray_of
   stray_alone e p q = rw (e, eq-eqb length 1 p, eq-eqb b 0xFF q)
 

@@ -2,50 +2,36 @@
 #![tactic(auto)]
 
 ghost use Rattle.std.specs.Prelude.{◌≡◌, true, ◌*◌, ◌≤◌, ◌<◌, pos, nat_abs, length};
-ghost use Rattle.laws.specs.Run.{alive, run, last_at};
+ghost use Rattle.laws.specs.Answer.{answered, BoundedBy};
+ghost use Rattle.laws.specs.Run.{live, alive, run, last_at};
 ghost use Rattle.pairs.specs.Pairs.{SmallHeld};
 ghost use Rattle.laws.specs.Limit.{limit};
 ghost use Rattle.weights.specs.Weights.{term, per_byte};
 ghost use Rattle.lengths.specs.Lengths.{big5_count};
 ghost use Rattle.big5.specs.Scoring.{scale_of, is_hanzi, is_distinct, beside_of, holds_of, hanzi_weight, letter_of, hanzi_of, other_of, unit_of, point_of, unmapped_of, extension_of, is_pair, is_extension, after_byte, stray_of, error_of, lent, fresh, step_of, scored};
-ghost use Rattle.big5.specs.Big5.{Sound, sound_b, SmallScale, out_of, Gives, ran_as, Bounded, Weighed, ready_b, ran_of, closed_of};
+ghost use Rattle.big5.specs.Big5.{Sound, sound_b, SmallScale, out_of, Weighed, ready_b, ran_of, closed_of};
 
-use laws::Reason;
-use pairs::{Event, Held};
+use laws::{Ran, Reason, Stop};
+use pairs::Event;
 
 // The kind of what came before.
-#[derive(Clone, Copy)]
+#[derive(Clone, Copy, PartialEq, Eq)]
 pub enum LatinCj {
     AsciiLetter,
     Cj,
     Other,
 }
 
-#[derive(Clone, Copy)]
+#[derive(Clone, Copy, PartialEq, Eq)]
 pub struct Big5 {
     pub lead: u8,
     pub prev: LatinCj,
     pub prev_byte: u8,
-    pub held: Held,
+    pub held: Option<i64>,
 }
 
-// What a stretch gives: the record after it and by how much the score changed, or none, with the reason and the byte's offset in
-// the part; or it was not fit to be run.
-#[derive(Clone, Copy)]
-pub enum Ran {
-    Live(Big5, i64),
-    Dropped(Reason, usize),
-    Unfit,
-}
-
-// What one byte gives.
-#[derive(Clone, Copy)]
-enum Stepped {
-    Live(Big5, i64),
-    Dropped,
-}
-
-// The weights that this machine uses.
+// The weights that this machine uses. That they are of 32 bits is asked by each function and no ghost field: `scale_of` makes a
+// scale of any list of numbers, and the theorems of specs/Edges.antt speak of every scale, as of every held score.
 #[derive(Clone, Copy)]
 struct Scale {
     adjacency: i64,
@@ -61,7 +47,7 @@ struct Scale {
 #[derive(Clone, Copy)]
 struct Scored {
     prev: LatinCj,
-    held: Held,
+    held: Option<i64>,
     gain: i64,
 }
 
@@ -70,29 +56,22 @@ struct Scored {
 fn is_hanzi(u: u32) -> bool
     ensures { result ≡ is_hanzi u }
 {
-    if u < 0x3400 {
-        return false;
-    }
-    if u < 0xA000 {
-        return true;
-    }
-    if u < 0xF900 {
-        return false;
-    }
-    u < 0xFB00
+    matches!(u, 0x3400..=0x9FFF | 0xF900..=0xFAFF)
 }
 
 // Full-width punctuation that Korean or Japanese text has otherwise.
+#[tactic(auto, unfolding(laws::specs::Lists::any))]
 fn is_distinct(u: u32) -> bool
     ensures { result ≡ is_distinct u }
 {
-    match u {
-        0x3000 | 0x3001 | 0x3002 | 0xFF01 | 0xFF08 | 0xFF09 | 0xFF0C | 0xFF1B | 0xFF1F => true,
-        _ => false,
-    }
+    matches!(
+        u,
+        0x3000 | 0x3001 | 0x3002 | 0xFF01 | 0xFF08 | 0xFF09 | 0xFF0C | 0xFF1B | 0xFF1F
+    )
 }
 
 impl Scale {
+    #[tactic(auto, unfolding(crate::specs::Scoring::scale_of))]
     fn read(weights: &[i32]) -> Scale
         ensures value { result ≡ scale_of weights.now }
         ensures small_scale { SmallScale result }
@@ -114,22 +93,19 @@ impl Scale {
     {
         match prev {
             LatinCj::AsciiLetter => self.adjacency,
-            LatinCj::Cj => 0,
-            LatinCj::Other => 0,
+            LatinCj::Cj | LatinCj::Other => 0,
         }
     }
 
     // Level 1, the Hanzi in frequent use, has the leads A4 to C6.
+    #[tactic(auto, unfolding(crate::specs::Scoring::hanzi_weight))]
     fn of_hanzi(self, prev_byte: u8) -> i64
         ensures { result ≡ hanzi_weight self prev_byte }
     {
-        if prev_byte < 0xA4 {
-            return self.hanzi;
+        match prev_byte {
+            0xA4..=0xC6 => self.level1,
+            _ => self.hanzi,
         }
-        if prev_byte < 0xC7 {
-            return self.level1;
-        }
-        self.hanzi
     }
 }
 
@@ -144,36 +120,41 @@ impl Big5 {
             lead: 0,
             prev: LatinCj::Other,
             prev_byte: 0,
-            held: Held::Nothing,
+            held: None,
         }
     }
 
     // Whether the score of a Hanzi waits for what follows.
+    #[tactic(auto, unfolding(crate::specs::Scoring::holds_of))]
     fn holds(self) -> bool
         ensures { result ≡ holds_of self }
     {
-        let prev = self.prev;
-        match prev {
-            LatinCj::AsciiLetter => pairs::is_held_lead(self.prev_byte),
-            LatinCj::Cj => false,
-            LatinCj::Other => pairs::is_held_lead(self.prev_byte),
+        self.prev != LatinCj::Cj && pairs::is_held_lead(self.prev_byte)
+    }
+
+    // A lead changes nothing else.
+    fn pending(self) -> Scored
+        ensures { result ≡ scored self.prev self.held (pos 0) }
+    {
+        Scored {
+            prev: self.prev,
+            held: self.held,
+            gain: 0,
         }
     }
 
     // A letter discards what is held.
+    #[tactic(auto, unfolding(crate::specs::Scoring::letter_of))]
     fn letter(self, w: Scale) -> Scored
         ensures { result ≡ letter_of w self }
     {
-        let prev = self.prev;
-        let gain = match prev {
-            LatinCj::AsciiLetter => 0,
-            LatinCj::Cj => w.adjacency,
-            LatinCj::Other => 0,
-        };
         Scored {
             prev: LatinCj::AsciiLetter,
-            held: Held::Nothing,
-            gain,
+            held: None,
+            gain: match self.prev {
+                LatinCj::Cj => w.adjacency,
+                LatinCj::AsciiLetter | LatinCj::Other => 0,
+            },
         }
     }
 
@@ -184,38 +165,37 @@ impl Big5 {
         requires own_bound { nat_abs own ≤ term }
         ensures { result ≡ hanzi_of w self own }
     {
-        let prev = self.prev;
-        let held = self.held;
-        let gain = held.released() + w.beside(prev);
+        let gain = pairs::released(self.held) + w.beside(self.prev);
         if self.holds() {
             return Scored {
                 prev: LatinCj::Cj,
-                held: Held::Score(own),
+                held: Some(own),
                 gain,
             };
         }
         Scored {
             prev: LatinCj::Cj,
-            held: Held::Nothing,
+            held: None,
             gain: gain + own,
         }
     }
 
     // Anything else that is no ASCII: what is held is released, and its own score added.
+    #[tactic(auto, unfolding(crate::specs::Scoring::other_of))]
     fn other(self, own: i64) -> Scored
         requires small_held { SmallHeld self.held }
         requires own_bound { nat_abs own ≤ term }
         ensures { result ≡ other_of self own }
     {
-        let held = self.held;
         Scored {
             prev: LatinCj::Other,
-            held: Held::Nothing,
-            gain: held.released() + own,
+            held: None,
+            gain: pairs::released(self.held) + own,
         }
     }
 
     // A code point that is one unit.
+    #[tactic(auto, unfolding(crate::specs::Scoring::unit_of))]
     fn unit(self, u: u32, w: Scale) -> Scored
         requires small_scale { SmallScale w }
         requires small_held { SmallHeld self.held }
@@ -233,7 +213,7 @@ impl Big5 {
         if u < 0x80 {
             return Scored {
                 prev: LatinCj::Other,
-                held: Held::Nothing,
+                held: None,
                 gain: 0,
             };
         }
@@ -241,6 +221,7 @@ impl Big5 {
     }
 
     // A code point that is a pair of units is a Hanzi of Hong Kong's extension.
+    #[tactic(auto, unfolding(crate::specs::Scoring::point_of))]
     fn point(self, point: u32, w: Scale) -> Scored
         requires small_scale { SmallScale w }
         requires small_held { SmallHeld self.held }
@@ -258,12 +239,10 @@ impl Big5 {
         requires small_held { SmallHeld self.held }
         ensures { result ≡ unmapped_of w self }
     {
-        let prev = self.prev;
-        let held = self.held;
         Scored {
             prev: LatinCj::Cj,
-            held: Held::Nothing,
-            gain: held.released() + w.pua + w.beside(prev),
+            held: None,
+            gain: pairs::released(self.held) + w.pua + w.beside(self.prev),
         }
     }
 }
@@ -272,24 +251,20 @@ impl Big5 {
 fn is_pair(prev_byte: u8, b: u8) -> bool
     ensures { result ≡ is_pair prev_byte b }
 {
-    if pairs::is_lead(prev_byte) {
-        return big5_decoder::is_trail(b);
-    }
-    false
+    pairs::is_lead(prev_byte) && big5_decoder::is_trail(b)
 }
 
 // Whether the byte before is a single byte of Mac OS Chinese Traditional where it stands before ASCII or FF. It is a lead too;
 // FF is another such byte, and no lead.
+#[tactic(auto, unfolding(laws::specs::Lists::any))]
 fn is_extension(prev_byte: u8) -> bool
     ensures { result ≡ is_extension prev_byte }
 {
-    match prev_byte {
-        0xA0 | 0xFD | 0xFE => true,
-        _ => false,
-    }
+    matches!(prev_byte, 0xA0 | 0xFD | 0xFE)
 }
 
 // An extension byte with the byte after it: ASCII, or the extension FF, which counts too.
+#[tactic(auto, unfolding(crate::specs::Scoring::extension_of))]
 fn extension(b: u8, w: Scale) -> Scored
     requires { SmallScale w }
     ensures { result ≡ extension_of w b }
@@ -297,185 +272,143 @@ fn extension(b: u8, w: Scale) -> Scored
     if b == 0xFF {
         return Scored {
             prev: LatinCj::Other,
-            held: Held::Nothing,
+            held: None,
             gain: w.extension + w.extension,
         };
     }
     if octets::is_ascii_letter(b) {
         return Scored {
             prev: LatinCj::AsciiLetter,
-            held: Held::Nothing,
+            held: None,
             gain: w.extension,
         };
     }
     Scored {
         prev: LatinCj::Other,
-        held: Held::Nothing,
+        held: None,
         gain: w.extension,
     }
 }
 
-// The record after a byte.
-fn after_byte(lead: u8, b: u8, s: Scored) -> Stepped
-    ensures { Gives result (after_byte lead b s) }
+// The record after a byte, and by how much the score changed.
+fn after_byte(lead: u8, b: u8, s: Scored) -> (Big5, i64)
+    ensures { live result.0 result.1 ≡ after_byte lead b s }
 {
-    let prev = s.prev;
-    let held = s.held;
-    Stepped::Live(
-        Big5 {
-            lead,
-            prev,
-            prev_byte: b,
-            held: held.kept(),
-        },
-        s.gain,
-    )
+    let next = Big5 {
+        lead,
+        prev: s.prev,
+        prev_byte: b,
+        held: s.held,
+    };
+    (next, s.gain)
 }
 
 impl Big5 {
     // An error that is no pair in range: an extension, or the machine drops out.
-    fn stray(self, lead: u8, b: u8, size: u8, w: Scale) -> Stepped
+    #[tactic(auto, unfolding(crate::specs::Scoring::stray_of))]
+    fn stray(self, lead: u8, b: u8, size: u8, w: Scale) -> Option<(Big5, i64)>
         requires { SmallScale w }
         ensures { out_of self.lead result ≡ stray_of w self lead b size }
     {
-        if is_extension(self.prev_byte) {
-            if b < 0x80 {
-                return after_byte(lead, b, extension(b, w));
-            }
-            if b == 0xFF {
-                return after_byte(lead, b, extension(b, w));
-            }
+        if is_extension(self.prev_byte) && (octets::is_ascii(b) || b == 0xFF) {
+            return Some(after_byte(lead, b, extension(b, w)));
         }
-        if size == 1 {
-            if b == 0xFF {
-                return after_byte(
-                    lead,
-                    b,
-                    Scored {
-                        prev: LatinCj::Other,
-                        held: Held::Nothing,
-                        gain: w.extension,
-                    },
-                );
-            }
+        if size == 1 && b == 0xFF {
+            let alone = Scored {
+                prev: LatinCj::Other,
+                held: None,
+                gain: w.extension,
+            };
+            return Some(after_byte(lead, b, alone));
         }
-        Stepped::Dropped
+        None
     }
 
-    fn error(self, lead: u8, b: u8, size: u8, w: Scale) -> Stepped
+    #[tactic(auto, unfolding(crate::specs::Scoring::error_of))]
+    fn error(self, lead: u8, b: u8, size: u8, w: Scale) -> Option<(Big5, i64)>
         requires small_scale { SmallScale w }
         requires small_held { SmallHeld self.held }
         ensures { out_of self.lead result ≡ error_of w self lead b size }
     {
         if is_pair(self.prev_byte, b) {
-            return after_byte(lead, b, self.unmapped(w));
+            return Some(after_byte(lead, b, self.unmapped(w)));
         }
         self.stray(lead, b, size, w)
     }
 
-    fn step(self, b: u8, index: &[u32], w: Scale) -> Stepped
+    // A byte; none where the machine drops out.
+    fn step(self, b: u8, index: &[u32], w: Scale) -> Option<(Big5, i64)>
         requires small_scale { SmallScale w }
         requires sound { Sound limit self }
         requires index_len { length index.now ≡ big5_count }
         ensures { out_of self.lead result ≡ step_of (lent index.now w) self b }
     {
         let d = big5_decoder::decode(self.lead, b, index);
-        let event = d.event;
-        match event {
-            Event::Pending => self.pending(d.lead, b),
-            Event::Point(point) => after_byte(d.lead, b, self.point(point, w)),
-            Event::Two(_, _) => after_byte(d.lead, b, self.other(w.other)),
+        match d.event {
+            Event::Pending => Some(after_byte(d.lead, b, self.pending())),
+            Event::Point(point) => Some(after_byte(d.lead, b, self.point(point, w))),
+            Event::Two(_, _) => Some(after_byte(d.lead, b, self.other(w.other))),
             Event::Error(size) => self.error(d.lead, b, size, w),
         }
     }
 
-    // A lead changes nothing else.
-    fn pending(self, lead: u8, b: u8) -> Stepped
-        ensures { out_of self.lead result ≡ after_byte lead b (scored self.prev self.held (pos 0)) }
-    {
-        let prev = self.prev;
-        let held = self.held;
-        Stepped::Live(
-            Big5 {
-                lead,
-                prev,
-                prev_byte: b,
-                held: held.kept(),
-            },
-            0,
-        )
-    }
-
-    fn run_fit(self, part: &[u8], index: &[u32], w: Scale) -> Ran
+    // EUC-KR's run is lent one list more, and its records have another bound and another test, so that each has its own.
+    fn run_fit(self, part: &[u8], index: &[u32], w: Scale) -> Ran<Big5>
         requires small_scale { SmallScale w }
         requires sound { Sound limit self }
         requires part_len_bound { length part.now ≤ limit }
         requires index_len { length index.now ≡ big5_count }
-        ensures value { result ≡ ran_as (last_at (step_of (lent index.now w)) (alive self) part.now) (run (step_of (lent index.now w)) (alive self) part.now) }
-        ensures bounded { Bounded (per_byte * length part.now) result }
+        ensures value { result ≡ answered (last_at (step_of (lent index.now w)) (alive self) part.now) (run (step_of (lent index.now w)) (alive self) part.now) }
+        ensures bounded { BoundedBy (per_byte * length part.now) result }
     {
         let mut m = self;
-        let mut s: i64 = 0;
-        let mut i = 0;
-        while i < part.len() {
-            match m.step(part[i], index, w) {
-                Stepped::Live(next, gain) => {
-                    m = next;
-                    s = s + gain;
-                }
-                Stepped::Dropped => {
-                    return Ran::Dropped(pairs::reason(m.lead), i);
-                }
-            }
-            i += 1;
+        let mut score: i64 = 0;
+        for i in 0..part.len() {
+            let Some(found) = m.step(part[i], index, w) else {
+                return Err(Stop::Dropped(pairs::reason(m.lead), i));
+            };
+            m = found.0;
+            score += found.1;
         }
-        let prev = m.prev;
-        let held = m.held;
-        Ran::Live(
-            Big5 {
-                lead: m.lead,
-                prev,
-                prev_byte: m.prev_byte,
-                held: held.kept(),
-            },
-            s,
-        )
+        Ok((m, score))
     }
 
     // Whether no bound of `bytes` bytes excludes the record.
+    #[tactic(auto, unfolding(crate::specs::Big5::sound_b))]
     pub fn is_sound_for(self, bytes: u64) -> bool
         ensures { result ≡ sound_b bytes self }
     {
-        let held = self.held;
-        pairs::is_lead_or_none(self.lead) && held.is_small()
+        pairs::is_lead_or_none(self.lead) && pairs::is_small(self.held)
     }
 
-    pub fn run(self, part: &[u8], index: &[u32], weights: &[i32]) -> Ran
+    pub fn run(self, part: &[u8], index: &[u32], weights: &[i32]) -> Ran<Big5>
         ensures value { result ≡ ran_of index.now weights.now self part.now }
-        ensures bounded { Bounded (per_byte * length part.now) result }
+        ensures bounded { BoundedBy (per_byte * length part.now) result }
         ensures weighed { Weighed weights.now result }
     {
         if is_ready(self, part, index, weights) {
             return self.run_fit(part, index, Scale::read(weights));
         }
-        Ran::Unfit
+        Err(Stop::Unfit)
     }
 
     // The end of the stream: none where a lead is pending, at no byte. A held score counts nothing, and stays.
-    pub fn close(self) -> Ran
+    #[tactic(auto, unfolding(crate::specs::Big5::closed_of, laws::specs::Answer::tested))]
+    pub fn close(self) -> Ran<Big5>
         ensures { result ≡ closed_of self }
     {
-        if self.is_sound_for(lengths::LIMIT) {
-            if self.lead == 0 {
-                return Ran::Live(self, 0);
-            }
-            return Ran::Dropped(Reason::CutAtClose, 0);
+        if !self.is_sound_for(lengths::LIMIT) {
+            return Err(Stop::Unfit);
         }
-        Ran::Unfit
+        if self.lead != 0 {
+            return Err(Stop::Dropped(Reason::CutAtClose, 0));
+        }
+        Ok((self, 0))
     }
 }
 
 // Whether all is in order for a run.
+#[tactic(auto, unfolding(crate::specs::Big5::ready_b))]
 fn is_ready(m: Big5, part: &[u8], index: &[u32], weights: &[i32]) -> bool
     ensures { result ≡ ready_b index.now weights.now m part.now }
 {

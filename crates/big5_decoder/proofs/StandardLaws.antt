@@ -12,7 +12,7 @@ use Rattle.pairs.specs.Ranks.{numbers, those, rank_of}
 use Rattle.pairs.specs.RanksLaws as ranks
 use Rattle.pairs.specs.RanksLaws.{CountedTrails, counts, counted_by}
 use Rattle.pairs.specs.Sequences.{Yields, Reads}
-use Rattle.pairs.specs.SequencesLaws.{yields_reads, reads_yields}
+use Rattle.pairs.proofs.SequencesLaws.{yields_reads, reads_yields}
 use Rattle.pairs.specs.declared.Event.{Event}
 use Rattle.pairs.specs.declared.Event.TheVariants.{Point}
 use Rattle.big5_decoder.specs.Standard.{is_trail, layout, pointer_of, is_mapped, points_of, pair_of}

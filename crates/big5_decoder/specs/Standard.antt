@@ -1,5 +1,5 @@
 -- The Encoding Standard's Big5 decoder: what it has of its own in the frame of the pair decoders.
-use Rattle.std.specs.Prelude.{Bool, true, cond, ◌&&◌, ◌||◌, List, ℕ, ltb, eqb, length}
+use Rattle.std.specs.Prelude.{Bool, true, cond, ◌&&◌, ◌||◌, List, ℕ, ltb, eqb, length, Option, Some, None}
 use Rattle.octets.specs.Octets.{between}
 use Rattle.lengths.specs.Lengths.{big5_count}
 use Rattle.entries.specs.Entries as entries
@@ -8,8 +8,6 @@ use Rattle.pairs.specs.Standard.{CodePoints, two, Layout, pointer, indexed, retu
 use Rattle.pairs.specs.Events.{event_of, seen_by}
 use Rattle.pairs.specs.declared.Decoded.{Decoded}
 use Rattle.pairs.specs.declared.Event.{Event}
-use Rattle.pairs.specs.declared.Reply.{Reply}
-use Rattle.pairs.specs.declared.Reply.TheVariants.{Byte, Unfit}
 
 abbrev pub is_trail : ℕ → Bool
 is_trail b = between 0x40 0x7E b || between 0xA1 0xFE b
@@ -50,5 +48,5 @@ module _ (index : List ℕ) where
   decode_of lead b = seen_by layout points_of lead b
 
   -- the decoder alone answers every lead, byte and index: only a lead that it can hold, or 0, and an index of the exact length are fit
-  unfoldable pub reply_of : ℕ → ℕ → Reply
-  reply_of lead b = cond (is_lead_or_none lead && eqb (length index) big5_count) (Byte (decode_of lead b)) Unfit
+  unfoldable pub reply_of : ℕ → ℕ → Option Decoded
+  reply_of lead b = cond (is_lead_or_none lead && eqb (length index) big5_count) (Some (decode_of lead b)) None

@@ -1,8 +1,7 @@
 -- The caseless machine: what one byte does, a part of a chunk, and the close.
 use Rattle.std.specs.Prelude.{Bool, true, List, ℕ}
-use Rattle.laws.specs.Answer.{Answer, ran, unfit, answered, BoundedBy}
-use Rattle.laws.specs.Run.{Outcome, none, live}
-use Rattle.laws.specs.declared.Reason.TheVariants.{Class255}
+use Rattle.laws.specs.Answer.{Ran}
+use Rattle.laws.specs.Run.{Outcome, live}
 use Rattle.octets.specs.Octets.{ascii}
 use Rattle.single.specs.Class.{caseless_of, alphabetic, unless255}
 use Rattle.laws.specs.Limit.{room}
@@ -12,10 +11,6 @@ use Rattle.single.specs.Lent.{Lent}
 use Rattle.single.specs.Pair.{gain_of}
 use Rattle.single.specs.Words.{word_of, longest_of}
 use Rattle.caseless_script.specs.declared.Caseless.{Caseless}
-use Rattle.caseless_script.specs.declared.Ran.{Ran}
-use Rattle.caseless_script.specs.declared.Ran.TheVariants.{Live, Dropped, Unfit}
-use Rattle.caseless_script.specs.declared.Stepped.{Stepped}
-use Rattle.caseless_script.specs.declared.Stepped.TheVariants.{Live as SteppedLive, Dropped as SteppedDropped}
 
 abbrev pub fresh : Caseless
 fresh = record { prev = 0; prev_ascii = true; current_word_len = 0; longest_word = 0 }
@@ -44,25 +39,8 @@ abbrev pub sound_b : ℕ → Caseless → Bool
 sound_b n m = common_b n m.prev m.current_word_len m.longest_word
 
 -- ---- the answers
-abbrev pub answer_of : Ran → Answer Caseless
-answer_of (Live m s) = ran (live m s)
-answer_of (Dropped d n) = ran (none d)
-answer_of Unfit = unfit
+abbrev pub ran_of : Lent → Caseless → List ℕ → Ran Caseless
+ran_of t m xs = ran_by step_of (sound_b room) t m xs
 
-abbrev pub took_of : Stepped → Answer Caseless
-took_of (SteppedLive m s) = ran (live m s)
-took_of SteppedDropped = ran (none Class255)
-
--- what happened, and where
-abbrev pub ran_as : ℕ → Outcome Caseless → Ran
-ran_as at o = answered Live Dropped at o
-
-unfoldable pub ran_of : Lent → Caseless → List ℕ → Ran
-ran_of t m xs = ran_by step_of (sound_b room) Live Dropped Unfit t m xs
-
-unfoldable pub closed_of : Lent → Caseless → Ran
-closed_of t m = closed_by step_of (sound_b room) Live Dropped Unfit t m
-
--- a live answer's score changes by at most c
-abbrev pub Bounded : ℕ → Ran → Type 0
-Bounded c r = BoundedBy c (answer_of r)
+abbrev pub closed_of : Lent → Caseless → Ran Caseless
+closed_of t m = closed_by step_of (sound_b room) t m

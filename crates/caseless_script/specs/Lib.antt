@@ -1,4 +1,3 @@
 pub mod Caseless
 pub mod CaselessLaws
-pub mod HeadLaws
 pub mod Noted

@@ -1,18 +1,17 @@
 -- The code's own step, which leaves the flag of its byte to be found from the byte itself. No public contract cites it.
-use Rattle.std.specs.Prelude.{◌≡◌, refl, Bool, true, false, cond, List, ℕ, ◌+◌, eqb, ℤ, get_or}
-use Rattle.std.proofs.Common.{sym}
-use Rattle.laws.specs.Run.{Outcome, live, none}
-use Rattle.laws.specs.declared.Reason.{Reason}
+use Rattle.std.specs.Prelude.{◌≡◌, ◌≢◌, refl, Bool, false, List, ℕ, ◌+◌, ◌≤◌, ℤ, get_or, nat_abs, Some}
+use Rattle.std.proofs.Common.{sym, ne_eqb}
+use Rattle.laws.specs.Run.{none}
 use Rattle.laws.specs.declared.Reason.TheVariants.{Class255}
-use Rattle.octets.specs.Octets.{ascii}
-use Rattle.single.specs.Before.{ascii_before, ascii_pair_at, ascii_next}
-use Rattle.single.specs.Class.{class_of, caseless_of, alphabetic, unless255}
-use Rattle.single.specs.ClassLaws.{live_is, none_is}
+use Rattle.weights.specs.Weights.{per_byte}
+use Rattle.single.specs.Before.{ascii_before, ascii_next}
+use Rattle.single.specs.Class.{class_of, caseless_of, alphabetic}
 use Rattle.single.specs.Lent.{Lent}
 use Rattle.single.specs.Pair.{gain_by}
-use Rattle.single.specs.Rest.{Rests, rest_next}
+use Rattle.single.specs.Rest.{Rests, rest_start, rest_next}
+use Rattle.single.specs.Steps.{Steps, Starts}
 use Rattle.single.specs.Words.{word_of, longest_of}
-use Rattle.caseless_script.specs.Caseless.{next_of, step_of}
+use Rattle.caseless_script.specs.Caseless.{step_of}
 use Rattle.caseless_script.specs.declared.Caseless.{Caseless}
 
 abbrev pub flagged : Bool → Caseless → Caseless
@@ -23,9 +22,6 @@ flagged isAscii m =
       current_word_len = m.current_word_len;
       longest_word = m.longest_word;
     }
-
-abbrev pub pair_at : List ℕ → ℕ → Caseless → Bool
-pair_at xs i m = ascii_pair_at xs i m.prev_ascii
 
 -- the record at byte i of a part
 abbrev pub noted : List ℕ → ℕ → Caseless → Caseless
@@ -48,30 +44,19 @@ left_by m b current alphabetic =
 abbrev pub gain_from : List ℕ → List ℤ → List ℤ → Caseless → ℕ → ℕ → ℤ
 gain_from marks pairs weights m b current = gain_by marks pairs weights m.prev m.prev_ascii b current
 
-module _ (t : Lent) (m : Caseless) (b : ℕ) where
-  abbrev left_of : Caseless
-  left_of = left_by m b (caseless_of t b) (alphabetic t b)
+-- where no word has begun, the class of the byte before is not alphabetic
+abbrev pub RestsAt : Lent → ℕ → Caseless → Type 0
+RestsAt t i m = Rests t.marks i m.current_word_len m.prev
 
-  unfoldable pub rough_of : Outcome Caseless
-  rough_of = unless255 t b (live left_of (gain_from t.marks t.pairs t.weights m b (caseless_of t b)))
+pub starts : Starts noted RestsAt
+starts = record { same = λ xs m. refl; rests = λ t m. rest_start t.marks m.current_word_len m.prev }
 
-  live_at : (x : Bool) (n : Caseless) (k g : ℤ) → cond x (none Class255) (live left_of k) ≡ live n g → cond x (none Class255) (live (next_of t m b) k) ≡ live (flagged (ascii b) n) g
-  live_at true n k g e = cc
-  live_at false n k g e = let q : left_of ≡ n = cc in rw (sym q) (cc)
+-- byte i of a part
+module _ (t : Lent) (xs : List ℕ) (i : ℕ) (m : Caseless) where
+  pub step_drops : class_of t (get_or xs i 0) ≡ 255 → step_of t (noted xs i m) (get_or xs i 0) ≡ none Class255
+  unfolding step_of
+  step_drops e = rw e
 
-  pub rough_live : {n : Caseless} {g : ℤ} → rough_of ≡ live n g → step_of t m b ≡ live (flagged (ascii b) n) g
-  unfolding rough_of step_of
-  rough_live {n} {g} e = live_at (eqb (class_of t b) 255) n _ g e
-
-  pub rough_none : {d : Reason} → rough_of ≡ none d → step_of t m b ≡ none d
-  unfolding rough_of step_of
-  rough_none e = none_is t b left_of (next_of t m b) _ _ e
-
-  -- where no word has begun, the byte's class is not alphabetic
-  pub rough_rests : (i : ℕ) {n : Caseless} {g : ℤ} → rough_of ≡ live n g → Rests t.marks i n.current_word_len n.prev
-  unfolding rough_of
-  rough_rests i {n} {g} e = rw (live_is t b left_of n _ g e) (rest_next t.marks i m.current_word_len (caseless_of t b) (alphabetic t b) refl)
-
--- what the step before leaves is the record at the next byte
-pub noted_next : (xs : List ℕ) (i : ℕ) (n : Caseless) → noted xs (i + 1) n ≡ flagged (ascii (get_or xs i 0)) n
-noted_next xs i n = rw (ascii_next xs i n.prev_ascii)
+  pub step_leaves : (a : Bool) → (class_of t (get_or xs i 0) ≢ 255) → alphabetic t (get_or xs i 0) ≡ a → (r : Caseless × ℤ) → r.0 ≡ left_by (noted xs i m) (get_or xs i 0) (caseless_of t (get_or xs i 0)) a → r.1 ≡ gain_from t.marks t.pairs t.weights (noted xs i m) (get_or xs i 0) (caseless_of t (get_or xs i 0)) → nat_abs r.1 ≤ per_byte → Steps step_of noted RestsAt t xs i m (Some r)
+  unfolding step_of
+  step_leaves a f e r p q h = rw (p, q) ((rw (ne_eqb _ _ f, e, ascii_next xs i false) refl), (rest_next t.marks (i + 1) m.current_word_len (caseless_of t (get_or xs i 0)) a e, rw (sym q) h))

@@ -11,7 +11,7 @@ tabled f k zero = []
 tabled f k (suc n) = f k ∷ tabled f (suc k) n
 
 -- capitals 0x81, small letters 1, 0xE0..0xFA 2, 0xFF 255, all else 0
-unfoldable pub class_of : ℕ → ℕ
+abbrev pub class_of : ℕ → ℕ
 class_of b = cond (upper_case b) 0x81 (cond (lower_case b) 1 (cond (between 0xE0 0xFA b) 2 (cond (eqb b 0xFF) 255 0)))
 
 unfoldable pub classes : List ℕ
@@ -26,7 +26,7 @@ unfoldable pub pairs : List ℤ
 pairs = set (replicate pair_count (pos 0)) (128 * 2 + 2) (pos 10)
 
 -- an index of n entries that maps nothing
-unfoldable pub unmapped : ℕ → List ℕ
+abbrev pub unmapped : ℕ → List ℕ
 unmapped n = replicate n 0
 
 unfoldable pub extras : List ℤ

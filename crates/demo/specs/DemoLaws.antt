@@ -47,7 +47,6 @@ unfolding pairs
 pairs_length = length-set (replicate pair_count (pos 0)) 258 (pos 10) ∙ length-replicate pair_count (pos 0)
 
 unmapped_length : (n : ℕ) → length (unmapped n) ≡ n
-unfolding unmapped
 unmapped_length n = length-replicate {A = ℕ} n 0
 
 extras_length : length extras ≡ extra_count

@@ -2,8 +2,6 @@
 #![tactic(auto)]
 
 ghost use Rattle.std.specs.Prelude.{◌≡◌};
-ghost use Rattle.lengths.specs.Lengths.{big5_count, euc_kr_count, jis_count};
-ghost use Rattle.octets.specs.Octets.{between};
 ghost use Rattle.demo.specs.Demo.{class_of, classes, marks, pairs, unmapped, extras, weights};
 
 use lengths::{BIG5, CLASSES, EUC_KR, EXTRAS, JIS, MARKS, PAIRS, WEIGHTS};
@@ -30,41 +28,23 @@ const LETTER: usize = 2;
 
 const LETTERS: usize = MARKS * LETTER + LETTER;
 
-fn is_between(low: u8, high: u8, b: u8) -> bool
-    ensures { result ≡ between low high b }
-{
-    low <= b && b <= high
-}
-
 fn class(b: u8) -> u8
     ensures { result ≡ class_of b }
 {
-    if is_between(b'A', b'Z', b) {
-        return 0x81;
+    match b {
+        b'A'..=b'Z' => 0x81,
+        b'a'..=b'z' => 1,
+        0xE0..=0xFA => 2,
+        0xFF => 255,
+        _ => 0,
     }
-    if is_between(b'a', b'z', b) {
-        return 1;
-    }
-    if is_between(0xE0, 0xFA, b) {
-        return 2;
-    }
-    if b == 0xFF {
-        return 255;
-    }
-    0
 }
 
 // The classes, marks and pair scores of each of the four single-byte places.
 pub fn classes() -> Classes
     ensures { result ≡ classes }
 {
-    let mut to = [0u8; CLASSES];
-    let mut i = 0;
-    while i < CLASSES {
-        to[i] = class(i as u8);
-        i += 1;
-    }
-    to
+    std::array::from_fn(|b| class(b as u8))
 }
 
 pub fn marks() -> Marks
@@ -83,23 +63,11 @@ pub fn pairs() -> Pairs
     to
 }
 
-// The indexes, in which nothing is mapped.
-pub fn big5() -> Big5
-    ensures { result ≡ unmapped big5_count }
+// An index, in which nothing is mapped.
+pub fn unmapped<const N: usize>() -> [u32; N]
+    ensures { result ≡ unmapped N }
 {
-    [0; BIG5]
-}
-
-pub fn euckr() -> EucKr
-    ensures { result ≡ unmapped euc_kr_count }
-{
-    [0; EUC_KR]
-}
-
-pub fn jis() -> Jis
-    ensures { result ≡ unmapped jis_count }
-{
-    [0; JIS]
+    [0; N]
 }
 
 pub fn extras() -> Extras

@@ -1,5 +1,5 @@
 -- What a feed replies, what it gives and what it leaves.
-use Rattle.std.specs.Prelude.{Bool, false, cond, List, ℕ, ◌+◌, ltb, length}
+use Rattle.std.specs.Prelude.{Bool, false, cond, List, ℕ, ◌+◌, ltb, length, Result, Ok, Err}
 use Rattle.laws.specs.Limit.{limit}
 use Rattle.tables.specs.Tables.{Tables, sized_b}
 use Rattle.places.specs.Slate.{feed_all}
@@ -10,19 +10,20 @@ use Rattle.state.specs.Order.{state_b}
 use Rattle.detector.specs.declared.feed.Fed.{Fed}
 use Rattle.state.specs.declared.reply.Reply.{Reply}
 use Rattle.state.specs.declared.reply.Reply.TheVariants.{Accepted, Closed, WrongLength, TooLong, NotInOrder}
-use Rattle.detector.specs.declared.feed.Verdict.{Verdict}
-use Rattle.detector.specs.declared.feed.Verdict.TheVariants.{Accept, Refuse}
 use Rattle.state.specs.declared.State.{State}
 
 -- ---- the tests, 4, 1, 2, 3: the state, the close, the lent lengths, the bytes accepted and this chunk's
+abbrev pub Verdict : Type 0
+Verdict = Result (Unit {0}) Reply
+
 unfoldable pub verdict_of : State → Bool → ℕ → Verdict
 verdict_of s sized n =
     cond (state_b s)
-    (cond s.front.closed (Refuse (Closed (flag_of s.front)))
+    (cond s.front.closed (Err (Closed (flag_of s.front)))
     (cond sized
-    (cond (ltb limit (s.front.bytes + n)) (Refuse (TooLong (flag_of s.front))) Accept)
-    (Refuse (WrongLength (flag_of s.front)))))
-    (Refuse NotInOrder)
+    (cond (ltb limit (s.front.bytes + n)) (Err (TooLong (flag_of s.front))) (Ok tt))
+    (Err (WrongLength (flag_of s.front)))))
+    (Err NotInOrder)
 
 abbrev pub refusal_of : Tables → State → List ℕ → Verdict
 refusal_of t s xs = verdict_of s (sized_b t) (length xs)
@@ -45,8 +46,8 @@ abbrev pub accepted : State → Fed
 accepted s = fed s (Accepted (flag_of s.front))
 
 unfoldable pub feed_by : Tables → State → List ℕ → Bool → Verdict → Fed
-feed_by t s xs last (Refuse r) = fed s r
-feed_by t s xs last Accept = accepted (advance_of t s xs last)
+feed_by t s xs last (Err r) = fed s r
+feed_by t s xs last (Ok u) = accepted (advance_of t s xs last)
 
 abbrev pub feed_of : Tables → State → List ℕ → Bool → Fed
 feed_of t s xs last = feed_by t s xs last (refusal_of t s xs)

@@ -1,5 +1,5 @@
 -- Each way through a feed: the reply table, and what is left.
-use Rattle.std.specs.Prelude.{◌≡◌, Bool, cond, ℕ, ◌+◌, ◌^◌, ◌<◌, ◌≤◌, ltb, take, drop}
+use Rattle.std.specs.Prelude.{◌≡◌, Bool, cond, ℕ, ◌+◌, ◌^◌, ◌<◌, ◌≤◌, ltb, take, drop, Ok, Err}
 use Rattle.std.proofs.Math.Path.{refl, sym, ap, subst}
 use Rattle.std.proofs.Common.{◌∙◌, zero-add, arith, length-drop, length-take}
 use Rattle.std.proofs.Math.Bool.{true, false}
@@ -20,7 +20,7 @@ use Rattle.places.specs.Slate.{feed_all}
 use Rattle.places.specs.Kept.{AllKept}
 use Rattle.places.specs.SlateLaws.{feed_all_nil, nil_kept, fed_slate, slate_unfed}
 use Rattle.places.specs.declared.place.Place.{Place}
-use Rattle.detector.specs.Feed.{verdict_of, refusal_of, places_by, advance_of, fed, accepted, feed_by, feed_of}
+use Rattle.detector.specs.Feed.{Verdict, verdict_of, refusal_of, places_by, advance_of, fed, accepted, feed_by, feed_of}
 use Rattle.detector.specs.Kept.{Passed, StaysIn}
 use Rattle.state.specs.State.{flag_of, triggered, start_of, started_of}
 use Rattle.state.specs.StartLaws.{start_refused}
@@ -33,7 +33,6 @@ use Rattle.state.specs.OrderLaws.{order_true, true_order, start_in_order}
 use Rattle.detector.specs.OrderLaws.{KeptBy, advance_in_order}
 use Rattle.state.specs.declared.reply.Reply.{Reply}
 use Rattle.state.specs.declared.reply.Reply.TheVariants.{Closed, WrongLength, TooLong, NotInOrder}
-use Rattle.detector.specs.declared.feed.Verdict.TheVariants.{Accept, Refuse}
 use Rattle.detector.specs.declared.front.Due.{Due}
 use Rattle.detector.specs.declared.front.Due.TheVariants.{Nothing, Part, After}
 use Rattle.state.specs.declared.front.Front.{Front}
@@ -41,54 +40,58 @@ use Rattle.state.specs.declared.State.{State}
 
 -- ---- the tests, one after the other
 module _ (s : State) (sized : Bool) (n : ℕ) where
-  pub judged_order : state_b s ≡ false → Refuse NotInOrder ≡ verdict_of s sized n
+  pub judged_order : state_b s ≡ false → Err NotInOrder ≡ verdict_of s sized n
   unfolding verdict_of
   judged_order e = rw e
 
   module _ (a : state_b s ≡ true) where
-    pub judged_closed : s.front.closed ≡ true → Refuse (Closed (flag_of s.front)) ≡ verdict_of s sized n
+    pub judged_closed : s.front.closed ≡ true → Err (Closed (flag_of s.front)) ≡ verdict_of s sized n
     unfolding verdict_of
     judged_closed e = rw (a, e)
 
     module _ (b : s.front.closed ≡ false) where
-      pub judged_length : sized ≡ false → Refuse (WrongLength (flag_of s.front)) ≡ verdict_of s sized n
+      pub judged_length : sized ≡ false → Err (WrongLength (flag_of s.front)) ≡ verdict_of s sized n
       unfolding verdict_of
       judged_length e = rw (a, b, e)
 
       module _ (c : sized ≡ true) where
-        pub judged_long : limit < s.front.bytes + n → Refuse (TooLong (flag_of s.front)) ≡ verdict_of s sized n
+        pub judged_long : limit < s.front.bytes + n → Err (TooLong (flag_of s.front)) ≡ verdict_of s sized n
         unfolding verdict_of
         judged_long h = rw (a, b, c, lt-ltb limit (s.front.bytes + n) h)
 
-        pub judged_accept : s.front.bytes + n ≤ limit → Accept ≡ verdict_of s sized n
+        pub judged_accept : s.front.bytes + n ≤ limit → Ok tt ≡ verdict_of s sized n
         unfolding verdict_of
         judged_accept h = rw (a, b, c, le-ltb limit (s.front.bytes + n) h)
 
 -- ---- refused: in order, unless that was the reason
-no : {A : Type 0} {r : Reply} → Accept ≡ Refuse r → A
+no : {A : Type 0} {r : Reply} → ◌≡◌ {A = Verdict} (Ok tt) (Err r) → A
 no e = absurd (let q : ◌≡◌ {A = ℕ} 0 1 = cc in omega arith)
 
-no_accept : {A : Type 0} {r : Reply} → Refuse r ≡ Accept → A
+no_accept : {A : Type 0} {r : Reply} → ◌≡◌ {A = Verdict} (Err r) (Ok tt) → A
 no_accept e = absurd (let q : ◌≡◌ {A = ℕ} 0 1 = cc in omega arith)
 
-same : {x y : Reply} → Refuse x ≡ Refuse y → x ≡ y
+same : {x y : Reply} → ◌≡◌ {A = Verdict} (Err x) (Err y) → x ≡ y
 same e = cc
 
+-- what the four tests give
+abbrev tests : State → Bool → Bool → Bool → Bool → Verdict
+tests s a b c d = cond a (cond b (Err (Closed (flag_of s.front))) (cond c (cond d (Err (TooLong (flag_of s.front))) (Ok tt)) (Err (WrongLength (flag_of s.front))))) (Err NotInOrder)
+
 module _ (s : State) (n : ℕ) where
-  refused_at : (a b c d : Bool) (r : Reply) → state_b s ≡ a → cond a (cond b (Refuse (Closed (flag_of s.front))) (cond c (cond d (Refuse (TooLong (flag_of s.front))) Accept) (Refuse (WrongLength (flag_of s.front))))) (Refuse NotInOrder) ≡ Refuse r → StaysIn r s
+  refused_at : (a b c d : Bool) (r : Reply) → state_b s ≡ a → ◌≡◌ {A = Verdict} (tests s a b c d) (Err r) → StaysIn r s
   refused_at false b c d r e q = subst (λ (x : Reply). StaysIn x s) (same q) tt
   refused_at true true c d r e q = subst (λ (x : Reply). StaysIn x s) (same q) (order_true s e)
   refused_at true false false d r e q = subst (λ (x : Reply). StaysIn x s) (same q) (order_true s e)
   refused_at true false true true r e q = subst (λ (x : Reply). StaysIn x s) (same q) (order_true s e)
   refused_at true false true false r e q = no q
 
-  pub refused_stays : (sized : Bool) (r : Reply) → Refuse r ≡ verdict_of s sized n → StaysIn r s
+  pub refused_stays : (sized : Bool) (r : Reply) → Err r ≡ verdict_of s sized n → StaysIn r s
   unfolding verdict_of
   refused_stays sized r q = refused_at (state_b s) s.front.closed sized (ltb limit (s.front.bytes + n)) r refl (sym q)
 
 -- ---- accepted: what the tests have shown
 module _ (t : Tables) (s : State) (xs : List ℕ) where
-  accept_at : (a b c d : Bool) → state_b s ≡ a → s.front.closed ≡ b → sized_b t ≡ c → ltb limit (s.front.bytes + length xs) ≡ d → cond a (cond b (Refuse (Closed (flag_of s.front))) (cond c (cond d (Refuse (TooLong (flag_of s.front))) Accept) (Refuse (WrongLength (flag_of s.front))))) (Refuse NotInOrder) ≡ Accept → Passed t s xs
+  accept_at : (a b c d : Bool) → state_b s ≡ a → s.front.closed ≡ b → sized_b t ≡ c → ltb limit (s.front.bytes + length xs) ≡ d → ◌≡◌ {A = Verdict} (tests s a b c d) (Ok tt) → Passed t s xs
   accept_at false b c d p q r u e = no_accept e
   accept_at true true c d p q r u e = no_accept e
   accept_at true false false d p q r u e = no_accept e
@@ -97,17 +100,17 @@ module _ (t : Tables) (s : State) (xs : List ℕ) where
       let o = order_true s p in
       record { sized = sized_true t r; in_order = o; going = q; short = ltb-false limit (s.front.bytes + length xs) u }
 
-  pub accept_passed : Accept ≡ refusal_of t s xs → Passed t s xs
+  pub accept_passed : Ok tt ≡ refusal_of t s xs → Passed t s xs
   unfolding verdict_of
   accept_passed e = accept_at (state_b s) s.front.closed (sized_b t) (ltb limit (s.front.bytes + length xs)) refl refl refl refl (sym e)
 
 -- ---- the whole
 module _ (t : Tables) (s : State) (xs : List ℕ) (last : Bool) where
-  pub feed_refused : (r : Reply) → Refuse r ≡ refusal_of t s xs → fed s r ≡ feed_of t s xs last
+  pub feed_refused : (r : Reply) → Err r ≡ refusal_of t s xs → fed s r ≡ feed_of t s xs last
   unfolding feed_by
   feed_refused r e = rw (sym e)
 
-  pub feed_accepted : Accept ≡ refusal_of t s xs → accepted (advance_of t s xs last) ≡ feed_of t s xs last
+  pub feed_accepted : Ok tt ≡ refusal_of t s xs → accepted (advance_of t s xs last) ≡ feed_of t s xs last
   unfolding feed_by
   feed_accepted e = rw (sym e)
 

@@ -1,6 +1,6 @@
 // A chunk of a stream, and what is replied.
 ghost use Rattle.std.specs.Prelude.{false, ◌≡◌};
-ghost use Rattle.tables.specs.Tables.{tables};
+ghost use Rattle.tables.specs.Lists.{lists};
 ghost use Rattle.detector.specs.Feed.{verdict_of, accepted, feed_of};
 ghost use Rattle.detector.specs.Kept.{StaysIn};
 
@@ -11,40 +11,33 @@ use places::{order, slate};
 use state::State;
 use state::front::Front;
 use state::reply::Reply;
-use tables;
+use tables::Tables;
 
-#[derive(Clone, Copy)]
+#[derive(Clone, Copy, PartialEq, Eq)]
 pub struct Fed {
     pub state: State,
     pub reply: Reply,
 }
 
-// Whether a chunk is refused, and how.
-#[derive(Clone, Copy)]
-pub enum Verdict {
-    Accept,
-    Refuse(Reply),
-}
-
-// The tests, in document 01's order: 4, 1, 2, 3.
-fn judged(state: State, sized: bool, bytes: usize) -> Verdict
+// Whether a chunk is refused, and how. The tests, in document 01's order: 4, 1, 2, 3.
+fn judged(state: State, sized: bool, bytes: usize) -> Result<(), Reply>
     ensures { result ≡ verdict_of state sized bytes }
 {
     let front = state.front;
     let flag = front.flag();
     if !state.is_in_order() {
-        return Verdict::Refuse(Reply::NotInOrder);
+        return Err(Reply::NotInOrder);
     }
     if front.closed {
-        return Verdict::Refuse(Reply::Closed(flag));
+        return Err(Reply::Closed(flag));
     }
     if !sized {
-        return Verdict::Refuse(Reply::WrongLength(flag));
+        return Err(Reply::WrongLength(flag));
     }
     if lengths::LIMIT - front.bytes < bytes as u64 {
-        return Verdict::Refuse(Reply::TooLong(flag));
+        return Err(Reply::TooLong(flag));
     }
-    Verdict::Accept
+    Ok(())
 }
 
 fn accepted(front: Front, places: Slate) -> Fed
@@ -57,38 +50,14 @@ fn accepted(front: Front, places: Slate) -> Fed
 }
 
 // A chunk, the last one of its stream or not, over the lent tables.
-pub fn feed(
-    state: State,
-    chunk: &[u8],
-    last: bool,
-    classes4: &[u8],
-    marks4: &[u8],
-    pairs4: &[i16],
-    classes5: &[u8],
-    marks5: &[u8],
-    pairs5: &[i16],
-    classes6: &[u8],
-    marks6: &[u8],
-    pairs6: &[i16],
-    classes7: &[u8],
-    marks7: &[u8],
-    pairs7: &[i16],
-    big5: &[u32],
-    euckr: &[u32],
-    jis: &[u32],
-    extras: &[i16],
-    weights: &[i32],
-) -> Fed
-    ensures value { result ≡ feed_of (tables classes4.now marks4.now pairs4.now classes5.now marks5.now pairs5.now classes6.now marks6.now pairs6.now classes7.now marks7.now pairs7.now big5.now euckr.now jis.now extras.now weights.now) state chunk.now last }
+pub fn feed(state: State, chunk: &[u8], last: bool, tables: &Tables) -> Fed
+    ensures value { result ≡ feed_of (lists tables.now) state chunk.now last }
     ensures stays_in { StaysIn result.reply result.state }
 {
-    let sized = tables::are_sized(
-        classes4, marks4, pairs4, classes5, marks5, pairs5, classes6, marks6, pairs6, classes7,
-        marks7, pairs7, big5, euckr, jis, extras, weights,
-    );
+    let sized = tables.are_sized();
     match judged(state, sized, chunk.len()) {
-        Verdict::Refuse(reply) => Fed { state, reply },
-        Verdict::Accept => {
+        Err(reply) => Fed { state, reply },
+        Ok(()) => {
             let front = state.front;
             let trigger = front::trigger_in(front, chunk);
             let next = front::uncounted(front, trigger, chunk, last);
@@ -101,41 +70,14 @@ pub fn feed(
                 Due::Part(from) => {
                     let places = state.places;
                     let part = &chunk[from..];
-                    let fed = slate::feed(
-                        places, part, last, body, classes4, marks4, pairs4, classes5, marks5,
-                        pairs5, classes6, marks6, pairs6, classes7, marks7, pairs7, big5, euckr,
-                        jis, extras, weights,
-                    );
+                    let fed = slate::feed(places, part, last, body, tables);
                     accepted(front::counted(next, part), fed)
                 }
                 Due::After(count) => {
                     let places = state.places;
                     let context = front.context;
                     let saved = context.bytes();
-                    let fed = slate::feed_after(
-                        places,
-                        &saved[..count],
-                        chunk,
-                        last,
-                        body,
-                        classes4,
-                        marks4,
-                        pairs4,
-                        classes5,
-                        marks5,
-                        pairs5,
-                        classes6,
-                        marks6,
-                        pairs6,
-                        classes7,
-                        marks7,
-                        pairs7,
-                        big5,
-                        euckr,
-                        jis,
-                        extras,
-                        weights,
-                    );
+                    let fed = slate::feed_after(places, &saved[..count], chunk, last, body, tables);
                     accepted(front::counted(next, chunk), fed)
                 }
             }

@@ -8,7 +8,7 @@ use context::{Context, Scanned};
 use state::front::Front;
 
 // Where the trigger stands: in an earlier chunk, in this one at an offset, or in none so far.
-#[derive(Clone, Copy)]
+#[derive(Clone, Copy, PartialEq, Eq)]
 pub(crate) enum Trigger {
     Earlier,
     Escape(usize),
@@ -18,7 +18,7 @@ pub(crate) enum Trigger {
 
 // What of a chunk reaches the places: nothing; the chunk from an offset on; or so many bytes of the saved context, then the
 // whole chunk.
-#[derive(Clone, Copy)]
+#[derive(Clone, Copy, PartialEq, Eq)]
 pub(crate) enum Due {
     Nothing,
     Part(usize),
@@ -98,10 +98,7 @@ fn escaped(front: Front, trigger: Trigger) -> bool
 fn from_offset(at: usize, bytes: u64) -> u64
     ensures { result ≡ bytes - at }
 {
-    if at as u64 <= bytes {
-        return bytes - at as u64;
-    }
-    0
+    bytes.saturating_sub(at as u64)
 }
 
 // How many bytes from the end of the head on there are after a chunk.

@@ -4,8 +4,7 @@
 ghost use Rattle.std.specs.Prelude.{◌≡◌};
 ghost use Rattle.digest.specs.Digest.{fresh, with_byte, with_bytes};
 
-// A descriptor that each program has.
-const STDOUT_FILENO: i32 = 1;
+use scribe::STDOUT_FILENO;
 
 #[derive(Clone, Copy)]
 pub struct Digest {
@@ -28,7 +27,7 @@ impl Digest {
     fn with_byte(self, b: u8) -> Digest
         ensures { result ≡ with_byte self b }
     {
-        let added = b as u64 + 1;
+        let added = u64::from(b) + 1;
         Digest {
             first: (self.first % 2147483647 * 65599 + added) % 2147483647,
             second: (self.second % 2147483629 * 31337 + added) % 2147483629,
@@ -39,15 +38,12 @@ impl Digest {
     pub fn with(self, bytes: &[u8]) -> Digest
         ensures { result ≡ with_bytes self bytes.now }
     {
-        let mut d = self;
-        let mut i = 0;
-        while i < bytes.len() {
-            d = d.with_byte(bytes[i]);
-            i += 1;
-        }
-        d
+        bytes
+            .iter()
+            .fold(self, |digest, byte| digest.with_byte(*byte))
     }
 
+    // What can't be written is passed over, and the program goes on: `println!` would give each call a Result to throw away.
     pub fn print(self) {
         io::print_decimal(STDOUT_FILENO, self.first);
         io::write_all(STDOUT_FILENO, b" ");

@@ -1,94 +1,78 @@
-// The lent tables, read from standard input as the replay format lays them out.
-ghost use Rattle.std.specs.Prelude.{◌≡◌, ◌+◌, ◌<◌, ◌≤◌, length};
-ghost use Rattle.lengths.specs.Lengths.{big5_count, euc_kr_count, jis_count};
+// The lent tables, read from standard input as the replay format lays them out, and which of them are a place's own.
+ghost use Rattle.std.specs.Prelude.{◌≡◌, ◌<◌, length};
 
+use arabic_french::ArabicFrench;
+use big5::Big5;
+use caseless_script::Caseless;
+use euckr::EucKr;
+use iso2022jp::Iso2022Jp;
+use kinds::machine::Kind;
 use lengths::{BIG5, CLASSES, EUC_KR, EXTRAS, JIS, MARKS, PAIRS, WEIGHTS};
+use logical::Logical;
 use reader::fill;
 use scribe::STDIN_FILENO;
+use shift_jis::ShiftJis;
+use tables::Tables;
+use tables::held::{Held, HeldSingle};
+use tables::own::Own;
+use utf8::Utf8;
+use visual::Visual;
 
-// The tables of the four single-byte places, from place 4 on.
-pub(crate) type Classes = [[u8; CLASSES]; 4];
-
-pub(crate) type Marks = [[u8; MARKS]; 4];
-
-pub(crate) type Pairs = [[i16; PAIRS]; 4];
-
-// Entries of the Big5, EUC-KR and JIS X 0208 indexes, which stand in one array as they come.
-pub(crate) const INDEXES: usize = BIG5 + EUC_KR + JIS;
-
-// Bytes of one single-byte place's tables, of the four, and of all that is lent.
+// Bytes of one single-byte place's tables, of the four, of the three indexes, and of all that is lent.
 const SINGLE: usize = CLASSES + MARKS + 2 * PAIRS;
 
 const SINGLES: usize = 4 * SINGLE;
 
-const LENT: usize = SINGLES + 4 * INDEXES + 2 * EXTRAS + 4 * WEIGHTS;
+const INDEXES: usize = 4 * BIG5 + 4 * EUC_KR + 4 * JIS;
 
-fn single(bytes: &[u8], k: usize, classes: &mut Classes, marks: &mut Marks, pairs: &mut Pairs)
+const LENT: usize = SINGLES + INDEXES + 2 * EXTRAS + 4 * WEIGHTS;
+
+// The tables of single-byte place k, counted from place 4.
+fn single(bytes: &[u8], k: usize, to: &mut HeldSingle)
     requires { (k < 4) × (length bytes.now ≡ 375028) }
 {
     let at = SINGLE * k;
-    fill::octets(&bytes[at..], &mut classes[k]);
-    fill::octets(&bytes[at + CLASSES..], &mut marks[k]);
-    fill::halves(&bytes[at + CLASSES + MARKS..], &mut pairs[k]);
+    fill::entries(&bytes[at..], &mut to.classes);
+    fill::entries(&bytes[at + CLASSES..], &mut to.marks);
+    fill::entries(&bytes[at + CLASSES + MARKS..], &mut to.pairs);
 }
 
 // What follows the tables of the single-byte places.
-fn rest(
-    bytes: &[u8],
-    indexes: &mut [u32; INDEXES],
-    extras: &mut [i16; EXTRAS],
-    weights: &mut [i32; WEIGHTS],
-)
+fn rest(bytes: &[u8], to: &mut Held)
     requires { length bytes.now ≡ 375028 }
 {
-    fill::words(&bytes[SINGLES..], indexes);
-    fill::halves(&bytes[SINGLES + 4 * INDEXES..], extras);
-    fill::signed_words(&bytes[LENT - 4 * WEIGHTS..], weights);
+    fill::entries(&bytes[SINGLES..], &mut to.big5);
+    fill::entries(&bytes[SINGLES + 4 * BIG5..], &mut to.euckr);
+    fill::entries(&bytes[SINGLES + 4 * BIG5 + 4 * EUC_KR..], &mut to.jis);
+    fill::entries(&bytes[SINGLES + INDEXES..], &mut to.extras);
+    fill::entries(&bytes[LENT - 4 * WEIGHTS..], &mut to.weights);
 }
 
 // Answers whether there was as much as that.
-pub(crate) fn lend(
-    classes: &mut Classes,
-    marks: &mut Marks,
-    pairs: &mut Pairs,
-    indexes: &mut [u32; INDEXES],
-    extras: &mut [i16; EXTRAS],
-    weights: &mut [i32; WEIGHTS],
-) -> bool {
+pub(crate) fn lend(to: &mut Held) -> bool {
     let mut bytes = [0u8; LENT];
     if io::read_full(STDIN_FILENO, &mut bytes) != LENT {
         return false;
     }
-    single(&bytes, 0, classes, marks, pairs);
-    single(&bytes, 1, classes, marks, pairs);
-    single(&bytes, 2, classes, marks, pairs);
-    single(&bytes, 3, classes, marks, pairs);
-    rest(&bytes, indexes, extras, weights);
+    single(&bytes, 0, &mut to.caseless);
+    single(&bytes, 1, &mut to.logical);
+    single(&bytes, 2, &mut to.visual);
+    single(&bytes, 3, &mut to.arabic_french);
+    rest(&bytes, to);
     true
 }
 
-// Which of the four single-byte places it is; for any other the first, whose tables it does not read.
-pub(crate) fn single_of(place: usize) -> usize
-    ensures { result < 4 }
-{
+// A place's own of all tables. Each number is another type's `own`, so a case for each is the plainest.
+pub(crate) fn own<'a>(tables: &Tables<'a>, place: usize) -> Own<'a> {
     match place {
-        5 => 1,
-        6 => 2,
-        7 => 3,
-        _ => 0,
-    }
-}
-
-// Where a place's index begins and where it ends. A place that has none gets the last, and does not read it.
-#[derive(Clone, Copy)]
-pub(crate) struct Part(pub(crate) usize, pub(crate) usize);
-
-pub(crate) fn index_of(place: usize) -> Part
-    ensures { (result.0 ≤ result.1) × (result.1 ≤ big5_count + euc_kr_count + jis_count) }
-{
-    match place {
-        2 => Part(BIG5, BIG5 + EUC_KR),
-        3 => Part(0, BIG5),
-        _ => Part(BIG5 + EUC_KR, INDEXES),
+        0 => Utf8::own(tables),
+        1 => Iso2022Jp::own(tables),
+        2 => EucKr::own(tables),
+        3 => Big5::own(tables),
+        4 => Caseless::own(tables),
+        5 => Logical::own(tables),
+        6 => Visual::own(tables),
+        7 => ArabicFrench::own(tables),
+        _ => ShiftJis::own(tables),
     }
 }

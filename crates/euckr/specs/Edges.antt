@@ -1,5 +1,5 @@
 -- The edge lines on EUC-KR, for all lent data that meets the line's premise.
-use Rattle.std.specs.Prelude.{◌≡◌, Bool, true, false, cond, ◌&&◌, List, [], ◌∷◌, ℕ, zero, suc, ◌+◌, ltb, ℤ, ◌+ℤ◌, get_or}
+use Rattle.std.specs.Prelude.{◌≡◌, Bool, true, false, cond, ◌&&◌, List, [], ◌∷◌, ℕ, zero, suc, ◌+◌, ltb, ℤ, ◌+ℤ◌, get_or, None, Some, Option}
 use Rattle.std.proofs.Math.Path.{refl, ap}
 use Rattle.std.proofs.Common.{sym, ◌∙◌, arith, le-ltb}
 use Rattle.std.proofs.Math.IntN.{pos, +ℤ_idl, +ℤ_idr, +ℤ_assoc, +ℤ_comm}
@@ -14,8 +14,6 @@ use Rattle.pairs.specs.Events.{event_of}
 use Rattle.pairs.specs.Ranges.{inside, below, above, range_true}
 use Rattle.pairs.specs.SequencesLaws.{first_lead, pair_seen}
 use Rattle.pairs.specs.declared.Event.TheVariants.{Pending, Point}
-use Rattle.pairs.specs.declared.Held.{Held}
-use Rattle.pairs.specs.declared.Held.TheVariants.{Nothing, Score}
 use Rattle.euckr_decoder.specs.Standard.{is_trail, layout, pointer_of, is_mapped, points_of, pair_of, decode_of}
 use Rattle.euckr_decoder.proofs.StandardLaws.{mapped_pair}
 use Rattle.euckr.specs.Scoring.{extra_of, is_euc, is_hangul, hangul_after, long_of, scored, holds_of, around_of, inner_of, outer_of, hangul_of, other_of, unit_of, extension_of, after_byte, stray_of, error_of, fresh, Lent, lent, step_of}
@@ -85,15 +83,15 @@ module _ (w : Scale) (m : EucKr) where
   unfolding inner_of
   inner_more x =
       let a = around_of (without_long w) m in
-      ap (λ (z : ℤ). scored Hangul (m.current_word_len + 1) Nothing (z +ℤ w.hangul +ℤ x)) around_more
-      ∙ ap (λ (z : ℤ). scored Hangul (m.current_word_len + 1) Nothing z) (ap (λ (z : ℤ). z +ℤ x) (+ℤ_assoc l a w.hangul) ∙ +ℤ_assoc l (a +ℤ w.hangul) x)
+      ap (λ (z : ℤ). scored Hangul (m.current_word_len + 1) None (z +ℤ w.hangul +ℤ x)) around_more
+      ∙ ap (λ (z : ℤ). scored Hangul (m.current_word_len + 1) None z) (ap (λ (z : ℤ). z +ℤ x) (+ℤ_assoc l a w.hangul) ∙ +ℤ_assoc l (a +ℤ w.hangul) x)
 
   outer_more : outer_of w m ≡ more l (outer_of (without_long w) m)
   unfolding outer_of
   outer_more =
       let a = around_of (without_long w) m in
       let n = m.current_word_len + 1 in
-      more_pick l (holds_of m) (scored Hangul n (Score w.outer) (around_of w m)) (scored Hangul n Nothing (around_of w m +ℤ w.outer)) (scored Hangul n (Score w.outer) a) (scored Hangul n Nothing (a +ℤ w.outer)) (ap (scored Hangul n (Score w.outer)) around_more) (ap (λ (z : ℤ). scored Hangul n Nothing (z +ℤ w.outer)) around_more ∙ ap (scored Hangul n Nothing) (+ℤ_assoc l a w.outer))
+      more_pick l (holds_of m) (scored Hangul n (Some w.outer) (around_of w m)) (scored Hangul n None (around_of w m +ℤ w.outer)) (scored Hangul n (Some w.outer) a) (scored Hangul n None (a +ℤ w.outer)) (ap (scored Hangul n (Some w.outer)) around_more) (ap (λ (z : ℤ). scored Hangul n None (z +ℤ w.outer)) around_more ∙ ap (scored Hangul n None) (+ℤ_assoc l a w.outer))
 
   hangul_more : (extras : List ℤ) (u b : ℕ) → hangul_of w m extras u b ≡ more l (hangul_of (without_long w) m extras u b)
   unfolding hangul_of
@@ -225,7 +223,7 @@ module _ (t : Lent) (bs : List ℕ) where
       word_run t 7 bs w fresh (pos 0) refl ∙ ap (λ (z : ℤ). plus z (run (step_of (short_words t)) (live fresh (pos 0)) bs)) (five_zeros (l +ℤ (l +ℤ pos 0)) ∙ ap (λ (z : ℤ). l +ℤ z) (+ℤ_idr l))
 
 -- a pair that ends in 81 and then FF alone: the extension weight twice, for the rule looks at the byte before, not at a lead
-pub after_81_ff : (t : Lent) (euc : Bool) (prev : LatinKorean) (word : ℕ) (held : Held) → step_of t (record { lead = 0; prev_byte = 0x81; prev_was_euc_range = euc; prev = prev; current_word_len = word; held = held }) 0xFF ≡ live (record { lead = 0; prev_byte = 0xFF; prev_was_euc_range = false; prev = Other; current_word_len = 0; held = Nothing }) (t.scale.extension +ℤ t.scale.extension)
+pub after_81_ff : (t : Lent) (euc : Bool) (prev : LatinKorean) (word : ℕ) (held : Option ℤ) → step_of t (record { lead = 0; prev_byte = 0x81; prev_was_euc_range = euc; prev = prev; current_word_len = word; held = held }) 0xFF ≡ live (record { lead = 0; prev_byte = 0xFF; prev_was_euc_range = false; prev = Other; current_word_len = 0; held = None }) (t.scale.extension +ℤ t.scale.extension)
 unfolding step_of decode_of first vars_of event_of error_of stray_of extension_of
 after_81_ff t euc prev word held = refl
 

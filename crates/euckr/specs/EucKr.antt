@@ -1,7 +1,7 @@
 -- What an EUC-KR record can hold, what a run and a close give, for every record and every lent list.
-use Rattle.std.specs.Prelude.{◌≡◌, Bool, true, cond, ◌&&◌, List, ℕ, ◌≤◌, leb, eqb, ℤ, nat_abs, length}
-use Rattle.laws.specs.Answer.{Answer, ran, unfit, answered, answered_if, Told, BoundedBy}
-use Rattle.laws.specs.Run.{Outcome, none, live, alive, run, last_at}
+use Rattle.std.specs.Prelude.{◌≡◌, Bool, true, cond, ◌&&◌, List, ℕ, ◌≤◌, leb, eqb, ℤ, nat_abs, length, Option, Some, None}
+use Rattle.laws.specs.Answer.{Ran, answered, tested, Told}
+use Rattle.laws.specs.Run.{Outcome, none, live, WhenLive, alive, run, last_at}
 use Rattle.laws.specs.declared.Reason.TheVariants.{CutAtClose}
 use Rattle.pairs.specs.Pairs.{is_lead_or_none, reason_by, released_of, small_held_b}
 use Rattle.laws.specs.Limit.{limit, room}
@@ -10,10 +10,6 @@ use Rattle.lengths.specs.Lengths.{weight_count, euc_kr_count, extra_count}
 use Rattle.euckr.specs.Scoring.{lent, scale_of, step_of}
 use Rattle.euckr.specs.declared.EucKr.{EucKr}
 use Rattle.euckr.specs.declared.Scale.{Scale}
-use Rattle.euckr.specs.declared.Stepped.{Stepped}
-use Rattle.euckr.specs.declared.Stepped.TheVariants.{Live as SteppedLive, Dropped as SteppedDropped}
-use Rattle.euckr.specs.declared.Ran.{Ran}
-use Rattle.euckr.specs.declared.Ran.TheVariants.{Live, Dropped, Unfit}
 
 -- a record that no bound of n bytes excludes
 pub record Sound (n : ℕ) (m : EucKr) : Type 0 where
@@ -39,33 +35,21 @@ pub record SmallScale (w : Scale) : Type 0 where
 
 -- ---- answers, as outcomes
 -- of a step, by the lead before the byte
-abbrev pub out_of : ℕ → Stepped → Outcome EucKr
-out_of before (SteppedLive m s) = live m s
-out_of before SteppedDropped = none (reason_by before)
+abbrev pub out_of : ℕ → Option (EucKr × ℤ) → Outcome EucKr
+out_of before (Some a) = live a.0 a.1
+out_of before None = none (reason_by before)
 
 -- of a step that stays alive, whatever the lead before the byte
-abbrev pub Gives : Stepped → Outcome EucKr → Type 0
+abbrev pub Gives : Option (EucKr × ℤ) → Outcome EucKr → Type 0
 Gives r o = (before : ℕ) → out_of before r ≡ o
 
 -- a live outcome's change of the score is at most five terms
 abbrev pub Slight : Outcome EucKr → Type 0
-Slight o = BoundedBy per_byte (ran o)
-
-abbrev pub answer_of : Ran → Answer EucKr
-answer_of (Live m s) = ran (live m s)
-answer_of (Dropped d at) = ran (none d)
-answer_of Unfit = unfit
-
-abbrev pub ran_as : ℕ → Outcome EucKr → Ran
-ran_as at o = answered Live Dropped at o
-
--- a live answer's score changes by at most c
-abbrev pub Bounded : ℕ → Ran → Type 0
-Bounded c r = BoundedBy c (answer_of r)
+Slight o = WhenLive (λ m s. nat_abs s ≤ per_byte) o
 
 -- a live answer came of weights of 32 bits
-abbrev pub Weighed : List ℤ → Ran → Type 0
-Weighed weights r = Told (λ m s. SmallScale (scale_of weights)) (answer_of r)
+abbrev pub Weighed : List ℤ → Ran EucKr → Type 0
+Weighed weights r = Told (λ m s. SmallScale (scale_of weights)) r
 
 -- ---- a run and a close
 abbrev pub lent_b : List ℕ → List ℤ → List ℤ → Bool
@@ -83,12 +67,12 @@ pub record Ready (index : List ℕ) (extras weights : List ℤ) (m : EucKr) (xs 
   pub weights_length : length weights ≡ weight_count
 
 -- the score starts from 0: what a run gives is its change
-unfoldable pub ran_of : List ℕ → List ℤ → List ℤ → EucKr → List ℕ → Ran
-ran_of index extras weights m xs = let step = step_of (lent index extras (scale_of weights)) in answered_if Live Dropped Unfit (ready_b index extras weights m xs) (last_at step (alive m) xs) (run step (alive m) xs)
+unfoldable pub ran_of : List ℕ → List ℤ → List ℤ → EucKr → List ℕ → Ran EucKr
+ran_of index extras weights m xs = let step = step_of (lent index extras (scale_of weights)) in tested (ready_b index extras weights m xs) (answered (last_at step (alive m) xs) (run step (alive m) xs))
 
 -- the end of the stream: none where a lead is pending, a cut at no byte; a held score counts nothing, and stays
 abbrev pub close_of : EucKr → Outcome EucKr
 close_of m = cond (eqb m.lead 0) (alive m) (none CutAtClose)
 
-unfoldable pub closed_of : EucKr → Ran
-closed_of m = answered_if Live Dropped Unfit (sound_b room m) 0 (close_of m)
+unfoldable pub closed_of : EucKr → Ran EucKr
+closed_of m = tested (sound_b room m) (answered 0 (close_of m))

@@ -1,10 +1,10 @@
 -- Laws of the EUC-KR machine: what a record holds is kept, a byte adds at most five terms, the tests decide, why it drops out.
-use Rattle.std.specs.Prelude.{◌≡◌, refl, true, ◌&&◌, List, ℕ, ◌+◌, ◌≤◌, leb, ℤ, pos, nat_abs, length}
+use Rattle.std.specs.Prelude.{◌≡◌, refl, true, ◌&&◌, List, ℕ, ◌+◌, ◌≤◌, leb, ℤ, pos, nat_abs, length, None}
 use Rattle.std.proofs.Common.{arith}
 use Rattle.std.proofs.Math.Dec.{eqb}
 use borrow.Author.Tests.{leb-true, le-leb, eqb-true, eq-eqb}
 use Rattle.laws.specs.Tests.{both, picked}
-use Rattle.laws.specs.Answer.{if_fit}
+use Rattle.laws.specs.Answer.{answered, if_fit}
 use Rattle.laws.specs.Carried.{Holds}
 use Rattle.laws.specs.Run.{Outcome, none, live, run, last_at, WhenNone, Within, alive}
 use Rattle.laws.specs.Sizes.{abs_add}
@@ -15,13 +15,12 @@ use Rattle.pairs.specs.Pairs.{is_lead_or_none, reason_by, SmallHeld, small_held_
 use Rattle.pairs.specs.PairsLaws.{handler_lead, held_true, true_held, OfPairs, reason_either}
 use Rattle.pairs.specs.declared.Event.{Event}
 use Rattle.pairs.specs.declared.Event.TheVariants.{Pending, Point, Two, Error}
-use Rattle.pairs.specs.declared.Held.TheVariants.{Nothing}
 use Rattle.laws.specs.Limit.{limit, room}
 use Rattle.weights.specs.Weights.{term, per_byte}
 use Rattle.lengths.specs.Lengths.{weight_count, euc_kr_count, extra_count}
 use Rattle.euckr_decoder.specs.Standard.{layout, points_of, decode_of}
 use Rattle.euckr.specs.Scoring.{scale_of, extra_of, is_euc, is_hangul, is_hanja, scored, holds_of, letter_of, inner_of, outer_of, hangul_of, hanja_of, other_of, unit_of, is_user_pair, is_mac_symbol, is_lone, extends, extension_of, after_byte, stray_of, error_of, on_event, Lent, lent, step_of}
-use Rattle.euckr.specs.EucKr.{Sound, sound_b, SmallScale, Slight, ran_as, ready_b, Ready, ran_of, close_of, closed_of}
+use Rattle.euckr.specs.EucKr.{Sound, sound_b, SmallScale, Slight, ready_b, Ready, ran_of, close_of, closed_of}
 use Rattle.euckr.specs.Ways.{FewTerms, letter_small, hangul_small, hanja_small, other_small}
 use Rattle.euckr.specs.declared.EucKr.{EucKr}
 use Rattle.euckr.specs.declared.LatinKorean.{LatinKorean}
@@ -59,27 +58,27 @@ module _ (index : List ℕ) (extras weights : List ℤ) (m : EucKr) (xs : List �
   true_ready r = rw (true_sound room m r.sound, le-leb _ _ r.short, eq-eqb _ _ r.index_length, eq-eqb _ _ r.extras_length, eq-eqb _ _ r.weights_length)
 
   -- what a caller that has tested uses
-  pub ran_ready : Ready index extras weights m xs → ran_of index extras weights m xs ≡ ran_as (last_at (step_of (lent index extras (scale_of weights))) (alive m) xs) (run (step_of (lent index extras (scale_of weights))) (alive m) xs)
+  pub ran_ready : Ready index extras weights m xs → ran_of index extras weights m xs ≡ answered (last_at (step_of (lent index extras (scale_of weights))) (alive m) xs) (run (step_of (lent index extras (scale_of weights))) (alive m) xs)
   unfolding ran_of
-  ran_ready r = if_fit _ _ _ _ _ _ (true_ready r)
+  ran_ready r = if_fit _ _ (true_ready r)
 
-pub closed_ready : (m : EucKr) → Sound room m → closed_of m ≡ ran_as 0 (close_of m)
+pub closed_ready : (m : EucKr) → Sound room m → closed_of m ≡ answered 0 (close_of m)
 unfolding closed_of
-closed_ready m s = if_fit _ _ _ _ _ _ (true_sound room m s)
+closed_ready m s = if_fit _ _ (true_sound room m s)
 
 -- ---- a byte leaves a record that EUC-KR can hold, with a word at most one longer
 pub record Fair (n : ℕ) (s : Scored) : Type 0 where
   pub word_most : s.word ≤ n + 1
   pub held_small : SmallHeld s.held
 
-plain_fair : (n : ℕ) (k : LatinKorean) (g : ℤ) → Fair n (scored k 0 Nothing g)
+plain_fair : (n : ℕ) (k : LatinKorean) (g : ℤ) → Fair n (scored k 0 None g)
 plain_fair n k g = record { word_most = omega arith; held_small = omega arith }
 
 after_sound : (n lead b : ℕ) (s : Scored) → is_lead_or_none lead ≡ true → Fair n s → Holds (Sound (n + 1)) (after_byte lead b s)
 after_sound n lead b s e k = record { lead_fits = e; word_most = k.word_most; held_small = k.held_small }
 
 module _ (w : Scale) (small : SmallScale w) (n : ℕ) (m : EucKr) (most : m.current_word_len ≤ n) where
-  grown_fair : (k : LatinKorean) (g : ℤ) → Fair n (scored k (m.current_word_len + 1) Nothing g)
+  grown_fair : (k : LatinKorean) (g : ℤ) → Fair n (scored k (m.current_word_len + 1) None g)
   grown_fair k g = record { word_most = omega arith; held_small = omega arith }
 
   letter_fair : Fair n (letter_of w m)
@@ -121,7 +120,7 @@ module _ (w : Scale) (small : SmallScale w) (n : ℕ) (m : EucKr) (most : m.curr
         picked (Holds (Sound (n + 1))) (is_user_pair m.prev_byte b) (after_sound n lead b (hanja_of w m w.pua) fits (hanja_fair w.pua))
         (picked (Holds (Sound (n + 1))) (is_mac_symbol m.prev_byte b) (after_sound n lead b (other_of m w.mac) fits (other_fair w.mac))
         (picked (Holds (Sound (n + 1))) (extends m.prev_byte b) (after_sound n lead b (extension_of w b) fits (extension_fair b))
-        (picked (Holds (Sound (n + 1))) (eqb k 1 && is_lone b) (after_sound n lead b (scored Other 0 Nothing w.extension) fits (plain_fair n Other _)) tt)))
+        (picked (Holds (Sound (n + 1))) (eqb k 1 && is_lone b) (after_sound n lead b (scored Other 0 None w.extension) fits (plain_fair n Other _)) tt)))
 
     event_sound : (extras : List ℤ) (e : Event) → Holds (Sound (n + 1)) (on_event w m extras lead b e)
     event_sound extras Pending = record { lead_fits = fits; word_most = omega arith; held_small = held }

@@ -1,5 +1,5 @@
 -- What EUC-KR forgets.
-use Rattle.std.specs.Prelude.{◌≡◌, refl, Bool, cond, List, ℕ, ◌<◌, ℤ, pos}
+use Rattle.std.specs.Prelude.{◌≡◌, refl, Bool, cond, List, ℕ, ◌<◌, ℤ, pos, None}
 use Rattle.std.proofs.Math.Path.{sym}
 use Rattle.std.proofs.Common.{ap, ◌∙◌, arith}
 use Rattle.std.proofs.Math.Bool.{true, false}
@@ -12,7 +12,6 @@ use Rattle.pairs.specs.Pairs.{decoded}
 use Rattle.pairs.specs.Ranges.{below}
 use Rattle.pairs.specs.SequencesLaws.{first_ascii}
 use Rattle.pairs.specs.declared.Event.TheVariants.{Point}
-use Rattle.pairs.specs.declared.Held.TheVariants.{Nothing}
 use Rattle.euckr_decoder.specs.Standard.{decode_of}
 use Rattle.euckr.specs.Scoring.{is_euc, is_hangul, is_hanja, letter_after, letter_of, scored, unit_of, after_byte, fresh, Lent, step_of}
 use Rattle.euckr.specs.Ways.{step_on}
@@ -26,7 +25,7 @@ ascii_kind isLetter = cond isLetter AsciiLetter Other
 
 -- of ASCII bytes the record holds the last one
 abbrev pub holding : ℕ → EucKr
-holding b = record { lead = 0; prev_byte = b; prev_was_euc_range = is_euc b; prev = ascii_kind (letter b); current_word_len = 0; held = Nothing }
+holding b = record { lead = 0; prev_byte = b; prev_was_euc_range = is_euc b; prev = ascii_kind (letter b); current_word_len = 0; held = None }
 
 no_hangul : (u : ℕ) → u < 0x80 → is_hangul u ≡ false
 no_hangul u h = below 0xAC00 0xD7A3 u (omega arith)
@@ -39,7 +38,7 @@ module _ (w : Scale) where
   none_beside true = refl
   none_beside false = refl
 
-  unit_ascii : (extras : List ℤ) (k b : ℕ) (t : Bool) → b < 0x80 → letter b ≡ t → unit_of w extras (holding k) b b ≡ scored (ascii_kind t) 0 Nothing (pos 0)
+  unit_ascii : (extras : List ℤ) (k b : ℕ) (t : Bool) → b < 0x80 → letter b ≡ t → unit_of w extras (holding k) b b ≡ scored (ascii_kind t) 0 None (pos 0)
   unfolding unit_of letter_of
   unit_ascii extras k b true h e = rw (e, none_beside (letter k))
   unit_ascii extras k b false h e = rw (e, no_hangul b h, no_hanja b h, lt-ltb b 0x80 h)

@@ -1,12 +1,10 @@
 -- How EUC-KR is scored: what each event does to the kind before, the word, the held score and the score.
-use Rattle.std.specs.Prelude.{Bool, true, false, cond, not, ◌&&◌, ◌||◌, List, ℕ, ◌+◌, ◌-◌, ltb, eqb, ℤ, pos, ◌+ℤ◌, get_or}
+use Rattle.std.specs.Prelude.{Bool, true, false, cond, not, ◌&&◌, ◌||◌, List, ℕ, ◌+◌, ◌-◌, ltb, eqb, ℤ, pos, ◌+ℤ◌, get_or, None, Some, Option}
 use Rattle.laws.specs.Run.{Outcome, none, live}
 use Rattle.octets.specs.Octets.{between, ascii, letter}
 use Rattle.pairs.specs.Pairs.{is_held_lead, reason_by, released_of}
 use Rattle.pairs.specs.declared.Event.{Event}
 use Rattle.pairs.specs.declared.Event.TheVariants.{Pending, Point, Two, Error}
-use Rattle.pairs.specs.declared.Held.{Held}
-use Rattle.pairs.specs.declared.Held.TheVariants.{Nothing, Score}
 use Rattle.weights.specs.Weights.{weight_of, cjk_latin_adjacency, cjk_other, euc_hangul, non_euc_hangul, hanja, hanja_after_hangul, euc_kr_pua, mac_korean, euc_kr_extension, long_word}
 use Rattle.euckr_decoder.specs.Standard.{decode_of}
 use Rattle.euckr.specs.declared.EucKr.{EucKr}
@@ -71,7 +69,7 @@ unfoldable pub long_of : Scale → ℕ → ℤ
 long_of w n = cond (ltb 5 n) w.long (pos 0)
 
 -- the kind, the word's length, what is held, and the score's change after a byte
-abbrev pub scored : LatinKorean → ℕ → Held → ℤ → Scored
+abbrev pub scored : LatinKorean → ℕ → Option ℤ → ℤ → Scored
 scored prev word held gain = record { prev = prev; word = word; held = held; gain = gain }
 
 -- the score of a Hangul outside the EUC range waits for what follows
@@ -81,7 +79,7 @@ holds_of m = not (is_after_hangul m.prev) && is_held_lead m.prev_byte
 module _ (w : Scale) (m : EucKr) where
   -- a letter discards what is held, and ends the word
   unfoldable pub letter_of : Scored
-  letter_of = scored AsciiLetter 0 Nothing (letter_after w m.prev)
+  letter_of = scored AsciiLetter 0 None (letter_after w m.prev)
 
   -- what a Hangul adds besides its own score: what is held is released; its neighbour; its word
   unfoldable pub around_of : ℤ
@@ -89,25 +87,25 @@ module _ (w : Scale) (m : EucKr) where
 
   -- a Hangul of two bytes in the EUC range is one of KS X 1001, and has an extra of its own
   unfoldable pub inner_of : ℤ → Scored
-  inner_of extra = scored Hangul (m.current_word_len + 1) Nothing (around_of +ℤ w.hangul +ℤ extra)
+  inner_of extra = scored Hangul (m.current_word_len + 1) None (around_of +ℤ w.hangul +ℤ extra)
 
   -- any other is one that code page 949 adds: its score is added, or held
   unfoldable pub outer_of : Scored
   outer_of =
       cond (holds_of m)
-      (scored Hangul (m.current_word_len + 1) (Score w.outer) around_of)
-      (scored Hangul (m.current_word_len + 1) Nothing (around_of +ℤ w.outer))
+      (scored Hangul (m.current_word_len + 1) (Some w.outer) around_of)
+      (scored Hangul (m.current_word_len + 1) None (around_of +ℤ w.outer))
 
   unfoldable pub hangul_of : List ℤ → ℕ → ℕ → Scored
   hangul_of extras u b = cond (m.prev_was_euc_range && is_euc b) (inner_of (extra_of extras u)) outer_of
 
   -- a Hanja, or a pair that counts as one
   unfoldable pub hanja_of : ℤ → Scored
-  hanja_of own = scored Hanja (m.current_word_len + 1) Nothing (released_of m.held +ℤ own +ℤ hanja_after w m.prev +ℤ long_of w (m.current_word_len + 1))
+  hanja_of own = scored Hanja (m.current_word_len + 1) None (released_of m.held +ℤ own +ℤ hanja_after w m.prev +ℤ long_of w (m.current_word_len + 1))
 
 -- anything else that is not ASCII releases what is held, and ends the word
 unfoldable pub other_of : EucKr → ℤ → Scored
-other_of m own = scored Other 0 Nothing (released_of m.held +ℤ own)
+other_of m own = scored Other 0 None (released_of m.held +ℤ own)
 
 -- one unit at byte b, in the Rust's order
 unfoldable pub unit_of : Scale → List ℤ → EucKr → ℕ → ℕ → Scored
@@ -115,7 +113,7 @@ unit_of w extras m u b =
     cond (letter u) (letter_of w m)
     (cond (is_hangul u) (hangul_of w m extras u b)
     (cond (is_hanja u) (hanja_of w m w.hanja)
-    (cond (ascii u) (scored Other 0 Nothing (pos 0)) (other_of m w.other))))
+    (cond (ascii u) (scored Other 0 None (pos 0)) (other_of m w.other))))
 
 -- ---- errors, by the byte before and this one
 -- a pair that code page 949 leaves to its users: the rows C9 and FE of EUC's range
@@ -144,8 +142,8 @@ extends before b = is_extension before && (ascii b || is_lone b)
 -- an extension that is also a lead, and the byte after it: another extension, a letter, or other ASCII
 unfoldable pub extension_of : Scale → ℕ → Scored
 extension_of w b =
-    cond (is_lone b) (scored Other 0 Nothing (w.extension +ℤ w.extension))
-    (cond (letter b) (scored AsciiLetter 0 Nothing w.extension) (scored Other 0 Nothing w.extension))
+    cond (is_lone b) (scored Other 0 None (w.extension +ℤ w.extension))
+    (cond (letter b) (scored AsciiLetter 0 None w.extension) (scored Other 0 None w.extension))
 
 -- alive, with the record after byte b
 abbrev pub after_byte : ℕ → ℕ → Scored → Outcome EucKr
@@ -160,7 +158,7 @@ module _ (w : Scale) (m : EucKr) where
   unfoldable pub stray_of : ℕ → ℕ → ℕ → Outcome EucKr
   stray_of lead b length =
       cond (extends m.prev_byte b) (after_byte lead b (extension_of w b))
-      (cond (eqb length 1 && is_lone b) (after_byte lead b (scored Other 0 Nothing w.extension)) (none (reason_by m.lead)))
+      (cond (eqb length 1 && is_lone b) (after_byte lead b (scored Other 0 None w.extension)) (none (reason_by m.lead)))
 
   unfoldable pub error_of : ℕ → ℕ → ℕ → Outcome EucKr
   error_of lead b length =
@@ -184,7 +182,7 @@ abbrev pub lent : List ℕ → List ℤ → Scale → Lent
 lent index extras scale = record { index = index; extras = extras; scale = scale }
 
 abbrev pub fresh : EucKr
-fresh = record { lead = 0; prev_byte = 0; prev_was_euc_range = false; prev = Other; current_word_len = 0; held = Nothing }
+fresh = record { lead = 0; prev_byte = 0; prev_was_euc_range = false; prev = Other; current_word_len = 0; held = None }
 
 unfoldable pub step_of : Lent → EucKr → ℕ → Outcome EucKr
 step_of t m b = on_event t.scale m t.extras (decode_of t.index m.lead b).lead b (decode_of t.index m.lead b).event

@@ -1,5 +1,5 @@
 -- What the code's branches need of the definitions: sizes, and sums as the code makes them.
-use Rattle.std.specs.Prelude.{◌≡◌, refl, Bool, true, false, ◌&&◌, List, ◌⊎◌, ℕ, ◌+◌, ◌<◌, ◌≤◌, ltb, eqb, ℤ, ◌+ℤ◌}
+use Rattle.std.specs.Prelude.{◌≡◌, refl, Bool, true, false, ◌&&◌, List, ◌⊎◌, ℕ, ◌+◌, ◌<◌, ◌≤◌, ltb, eqb, ℤ, ◌+ℤ◌, None}
 use Rattle.std.proofs.Common.{sym, ap, ◌∙◌, inl, inr, arith, SFits}
 use Rattle.std.proofs.Math.IntN.{nat_abs}
 use borrow.Author.Tests.{eq-eqb, ne_eqb, lt-ltb, le-ltb}
@@ -10,7 +10,6 @@ use Rattle.pairs.specs.Pairs.{reason_by, released_of, SmallHeld}
 use Rattle.pairs.specs.Sums.{kept, sum_small, sum_fits, sum_read, sum3_small, sum3_fits, sum3_read, sum4_small, sum4_fits, sum4_read}
 use Rattle.pairs.specs.declared.Decoded.{Decoded}
 use Rattle.pairs.specs.declared.Event.{Event}
-use Rattle.pairs.specs.declared.Held.TheVariants.{Nothing}
 use Rattle.weights.specs.Weights.{term, per_byte}
 use Rattle.euckr_decoder.specs.Standard.{decode_of}
 use Rattle.euckr.specs.Scoring.{extra_of, is_euc, hangul_after, hanja_after, letter_after, long_of, scored, holds_of, letter_of, around_of, inner_of, outer_of, hangul_of, hanja_of, other_of, is_extension, is_lone, extends, extension_of, after_byte, stray_of, on_event, Lent, step_of}
@@ -163,7 +162,7 @@ module _ (w : Scale) (m : EucKr) (lead x length : ℕ) where
   unfolding stray_of
   stray_extends e = rw e
 
-  pub stray_alone : extends m.prev_byte x ≡ false → length ≡ 1 → is_lone x ≡ true → after_byte lead x (scored Other 0 Nothing w.extension) ≡ stray_of w m lead x length
+  pub stray_alone : extends m.prev_byte x ≡ false → length ≡ 1 → is_lone x ≡ true → after_byte lead x (scored Other 0 None w.extension) ≡ stray_of w m lead x length
   unfolding stray_of
   stray_alone e p q = rw (e, eq-eqb length 1 p, q)
 

@@ -1,22 +1,22 @@
 // EUC-KR: the scoring machine over what the Standard's decoder yields.
 #![tactic(auto)]
 
-ghost use Rattle.std.specs.Prelude.{◌≡◌, true, ◌*◌, ◌≤◌, ◌<◌, nat_abs, length};
+ghost use Rattle.std.specs.Prelude.{◌≡◌, true, ◌*◌, ◌≤◌, ◌<◌, nat_abs, length, None};
+ghost use Rattle.laws.specs.Answer.{answered, BoundedBy};
 ghost use Rattle.laws.specs.Run.{alive, run, last_at};
 ghost use Rattle.pairs.specs.Pairs.{SmallHeld};
-ghost use Rattle.pairs.specs.declared.Held.TheVariants.{Nothing};
 ghost use Rattle.laws.specs.Limit.{limit, room};
 ghost use Rattle.weights.specs.Weights.{term, per_byte};
 ghost use Rattle.lengths.specs.Lengths.{euc_kr_count, extra_count};
 ghost use Rattle.euckr.specs.Scoring.{scale_of, extra_of, is_euc, is_hangul, is_hanja, hangul_after, hanja_after, letter_after, long_of, holds_of, scored, letter_of, around_of, inner_of, outer_of, hangul_of, hanja_of, other_of, unit_of, is_user_pair, is_mac_lead, is_mac_symbol, is_extension, is_lone, extension_of, after_byte, pending_of, stray_of, error_of, lent, fresh, step_of};
-ghost use Rattle.euckr.specs.EucKr.{Sound, sound_b, SmallScale, out_of, Gives, ran_as, Slight, Bounded, Weighed, lent_b, ready_b, ran_of, closed_of};
+ghost use Rattle.euckr.specs.EucKr.{Sound, sound_b, SmallScale, out_of, Gives, Slight, Weighed, lent_b, ready_b, ran_of, closed_of};
 ghost use Rattle.euckr.specs.declared.LatinKorean.TheVariants.{Other};
 
-use laws::Reason;
-use pairs::{Event, Held};
+use laws::{Ran, Reason, Stop};
+use pairs::Event;
 
 // The kind of what came before.
-#[derive(Clone, Copy)]
+#[derive(Clone, Copy, PartialEq, Eq)]
 pub enum LatinKorean {
     AsciiLetter,
     Hangul,
@@ -24,34 +24,21 @@ pub enum LatinKorean {
     Other,
 }
 
-#[derive(Clone, Copy)]
+#[derive(Clone, Copy, PartialEq, Eq)]
 pub struct EucKr {
     pub lead: u8,
     pub prev_byte: u8,
     pub prev_was_euc_range: bool,
     pub prev: LatinKorean,
     pub current_word_len: u64,
-    pub held: Held,
+    pub held: Option<i64>,
 }
 
-// What a stretch gives: the record after it and by how much the score changed, or none, with the reason and the byte's offset in
-// the part; or it was not fit to be run.
-#[derive(Clone, Copy)]
-pub enum Ran {
-    Live(EucKr, i64),
-    Dropped(Reason, usize),
-    Unfit,
-}
-
-// What one byte gives.
-#[derive(Clone, Copy)]
-enum Stepped {
-    Live(EucKr, i64),
-    Dropped,
-}
+// What one byte gives: the record and by how much the score changes; none where the machine drops out.
+type Stepped = Option<(EucKr, i64)>;
 
 // The weights that this machine uses: `outer` of a Hangul outside the EUC range, `mixed` of a Hanja after a Hangul, `long` of
-// a long word.
+// a long word. That they are of 32 bits is asked by each function and no ghost field, as in big5: the theorems speak of every scale.
 #[derive(Clone, Copy)]
 struct Scale {
     adjacency: i64,
@@ -71,7 +58,7 @@ struct Scale {
 struct Scored {
     prev: LatinKorean,
     word: u64,
-    held: Held,
+    held: Option<i64>,
     gain: i64,
 }
 
@@ -80,35 +67,20 @@ struct Scored {
 fn is_euc(b: u8) -> bool
     ensures { result ≡ is_euc b }
 {
-    if b < 0xA1 {
-        return false;
-    }
-    b < 0xFF
+    matches!(b, 0xA1..=0xFE)
 }
 
 fn is_hangul(u: u32) -> bool
     ensures { result ≡ is_hangul u }
 {
-    if u < 0xAC00 {
-        return false;
-    }
-    u < 0xD7A4
+    matches!(u, 0xAC00..=0xD7A3)
 }
 
 // The unified ideographs and on to the Hangul, and the compatibility ones of KS X 1001.
 fn is_hanja(u: u32) -> bool
     ensures { result ≡ is_hanja u }
 {
-    if u < 0x4E00 {
-        return false;
-    }
-    if u < 0xAC00 {
-        return true;
-    }
-    if u < 0xF900 {
-        return false;
-    }
-    u < 0xFA0C
+    matches!(u, 0x4E00..=0xABFF | 0xF900..=0xFA0B)
 }
 
 // The extra of a Hangul.
@@ -203,7 +175,7 @@ impl EucKr {
             prev_was_euc_range: false,
             prev: LatinKorean::Other,
             current_word_len: 0,
-            held: Held::Nothing,
+            held: None,
         }
     }
 
@@ -229,7 +201,7 @@ impl EucKr {
         Scored {
             prev: LatinKorean::AsciiLetter,
             word: 0,
-            held: Held::Nothing,
+            held: None,
             gain,
         }
     }
@@ -242,8 +214,7 @@ impl EucKr {
         ensures { result ≡ around_of w self }
     {
         let prev = self.prev;
-        let held = self.held;
-        held.released() + w.hangul_after(prev) + w.of_word(self.current_word_len + 1)
+        pairs::released(self.held) + w.hangul_after(prev) + w.of_word(self.current_word_len + 1)
     }
 
     // A Hangul of two bytes in the EUC range is one of KS X 1001 and has an extra of its own.
@@ -257,7 +228,7 @@ impl EucKr {
         Scored {
             prev: LatinKorean::Hangul,
             word: self.current_word_len + 1,
-            held: Held::Nothing,
+            held: None,
             gain: self.around_hangul(w) + w.hangul + extra,
         }
     }
@@ -274,14 +245,14 @@ impl EucKr {
             return Scored {
                 prev: LatinKorean::Hangul,
                 word: self.current_word_len + 1,
-                held: Held::Score(w.outer),
+                held: Some(w.outer),
                 gain,
             };
         }
         Scored {
             prev: LatinKorean::Hangul,
             word: self.current_word_len + 1,
-            held: Held::Nothing,
+            held: None,
             gain: gain + w.outer,
         }
     }
@@ -312,13 +283,12 @@ impl EucKr {
         ensures { result ≡ hanja_of w self own }
     {
         let prev = self.prev;
-        let held = self.held;
         let word = self.current_word_len + 1;
         Scored {
             prev: LatinKorean::Hanja,
             word,
-            held: Held::Nothing,
-            gain: held.released() + own + w.hanja_after(prev) + w.of_word(word),
+            held: None,
+            gain: pairs::released(self.held) + own + w.hanja_after(prev) + w.of_word(word),
         }
     }
 
@@ -328,12 +298,11 @@ impl EucKr {
         requires own_bound { nat_abs own ≤ term }
         ensures { result ≡ other_of self own }
     {
-        let held = self.held;
         Scored {
             prev: LatinKorean::Other,
             word: 0,
-            held: Held::Nothing,
-            gain: held.released() + own,
+            held: None,
+            gain: pairs::released(self.held) + own,
         }
     }
 
@@ -363,12 +332,12 @@ impl EucKr {
 
 // What is held is discarded, and the kind is Other.
 fn plain(gain: i64) -> Scored
-    ensures { result ≡ scored Other 0 Nothing gain }
+    ensures { result ≡ scored Other 0 None gain }
 {
     Scored {
         prev: LatinKorean::Other,
         word: 0,
-        held: Held::Nothing,
+        held: None,
         gain,
     }
 }
@@ -377,56 +346,35 @@ fn plain(gain: i64) -> Scored
 fn is_user_pair(prev_byte: u8, b: u8) -> bool
     ensures { result ≡ is_user_pair prev_byte b }
 {
-    if prev_byte == 0xC9 {
-        return is_euc(b);
-    }
-    if prev_byte == 0xFE {
-        return is_euc(b);
-    }
-    false
+    matches!(prev_byte, 0xC9 | 0xFE) && is_euc(b)
 }
 
 // Leads with which MacKorean has symbols besides those of KS X 1001.
 fn is_mac_lead(b: u8) -> bool
     ensures { result ≡ is_mac_lead b }
 {
-    match b {
-        0xA1 | 0xA3..=0xA8 | 0xAA..=0xAD => true,
-        _ => false,
-    }
+    matches!(b, 0xA1 | 0xA3..=0xA8 | 0xAA..=0xAD)
 }
 
 // Whether they are such a symbol: its second byte is no trail byte of code page 949.
 fn is_mac_symbol(prev_byte: u8, b: u8) -> bool
     ensures { result ≡ is_mac_symbol prev_byte b }
 {
-    if b < 0x7B {
-        return false;
-    }
-    if 0x7D < b {
-        return false;
-    }
-    is_mac_lead(prev_byte)
+    matches!(b, 0x7B..=0x7D) && is_mac_lead(prev_byte)
 }
 
 // Whether the byte before is a single byte of MacKorean where it stands before ASCII, 80 or FF. It is a lead too.
 fn is_extension(prev_byte: u8) -> bool
     ensures { result ≡ is_extension prev_byte }
 {
-    if prev_byte < 0x81 {
-        return false;
-    }
-    prev_byte < 0x85
+    matches!(prev_byte, 0x81..=0x84)
 }
 
 // The single bytes of MacKorean that are no leads.
 fn is_lone(b: u8) -> bool
     ensures { result ≡ is_lone b }
 {
-    if b == 0x80 {
-        return true;
-    }
-    b == 0xFF
+    matches!(b, 0x80 | 0xFF)
 }
 
 // An extension byte with the byte after it: ASCII, or an extension too.
@@ -441,7 +389,7 @@ fn extension(b: u8, w: Scale) -> Scored
         return Scored {
             prev: LatinKorean::AsciiLetter,
             word: 0,
-            held: Held::Nothing,
+            held: None,
             gain: w.extension,
         };
     }
@@ -453,18 +401,17 @@ fn after_byte(lead: u8, b: u8, s: Scored) -> Stepped
     ensures { Gives result (after_byte lead b s) }
 {
     let prev = s.prev;
-    let held = s.held;
-    Stepped::Live(
+    Some((
         EucKr {
             lead,
             prev_byte: b,
             prev_was_euc_range: is_euc(b),
             prev,
             current_word_len: s.word,
-            held: held.kept(),
+            held: pairs::kept(s.held),
         },
         s.gain,
-    )
+    ))
 }
 
 impl EucKr {
@@ -486,7 +433,7 @@ impl EucKr {
                 return after_byte(lead, b, plain(w.extension));
             }
         }
-        Stepped::Dropped
+        None
     }
 
     fn error(self, lead: u8, b: u8, size: u8, w: Scale) -> Stepped
@@ -509,18 +456,17 @@ impl EucKr {
         ensures { out_of self.lead result ≡ pending_of self lead b }
     {
         let prev = self.prev;
-        let held = self.held;
-        Stepped::Live(
+        Some((
             EucKr {
                 lead,
                 prev_byte: b,
                 prev_was_euc_range: is_euc(b),
                 prev,
                 current_word_len: self.current_word_len,
-                held: held.kept(),
+                held: pairs::kept(self.held),
             },
             0,
-        )
+        ))
     }
 
     fn step(self, b: u8, index: &[u32], extras: &[i16], w: Scale) -> Stepped
@@ -541,75 +487,68 @@ impl EucKr {
         }
     }
 
-    fn run_fit(self, part: &[u8], index: &[u32], extras: &[i16], w: Scale) -> Ran
+    fn run_fit(self, part: &[u8], index: &[u32], extras: &[i16], w: Scale) -> Ran<EucKr>
         requires small_scale { SmallScale w }
         requires sound { Sound room self }
         requires part_len_bound { length part.now ≤ limit }
         requires index_len { length index.now ≡ euc_kr_count }
         requires extras_len { length extras.now ≡ extra_count }
-        ensures value { result ≡ ran_as (last_at (step_of (lent index.now extras.now w)) (alive self) part.now) (run (step_of (lent index.now extras.now w)) (alive self) part.now) }
-        ensures bounded { Bounded (per_byte * length part.now) result }
+        ensures value { result ≡ answered (last_at (step_of (lent index.now extras.now w)) (alive self) part.now) (run (step_of (lent index.now extras.now w)) (alive self) part.now) }
+        ensures bounded { BoundedBy (per_byte * length part.now) result }
     {
         let mut m = self;
         let mut s: i64 = 0;
-        let mut i = 0;
-        while i < part.len() {
-            match m.step(part[i], index, extras, w) {
-                Stepped::Live(next, gain) => {
-                    m = next;
-                    s = s + gain;
-                }
-                Stepped::Dropped => {
-                    return Ran::Dropped(pairs::reason(m.lead), i);
-                }
-            }
-            i += 1;
+        for i in 0..part.len() {
+            let Some(found) = m.step(part[i], index, extras, w) else {
+                return Err(Stop::Dropped(pairs::reason(m.lead), i));
+            };
+            m = found.0;
+            s += found.1;
         }
         let prev = m.prev;
-        let held = m.held;
-        Ran::Live(
+        Ok((
             EucKr {
                 lead: m.lead,
                 prev_byte: m.prev_byte,
                 prev_was_euc_range: m.prev_was_euc_range,
                 prev,
                 current_word_len: m.current_word_len,
-                held: held.kept(),
+                held: pairs::kept(m.held),
             },
             s,
-        )
+        ))
     }
 
     // Whether no bound of `bytes` bytes excludes the record.
     pub fn is_sound_for(self, bytes: u64) -> bool
         ensures { result ≡ sound_b bytes self }
     {
-        let held = self.held;
-        pairs::is_lead_or_none(self.lead) && (self.current_word_len <= bytes && held.is_small())
+        pairs::is_lead_or_none(self.lead)
+            && (self.current_word_len <= bytes && pairs::is_small(self.held))
     }
 
-    pub fn run(self, part: &[u8], index: &[u32], extras: &[i16], weights: &[i32]) -> Ran
+    pub fn run(self, part: &[u8], index: &[u32], extras: &[i16], weights: &[i32]) -> Ran<EucKr>
         ensures value { result ≡ ran_of index.now extras.now weights.now self part.now }
-        ensures bounded { Bounded (per_byte * length part.now) result }
+        ensures bounded { BoundedBy (per_byte * length part.now) result }
         ensures weighed { Weighed weights.now result }
     {
         if is_ready(self, part, index, extras, weights) {
             return self.run_fit(part, index, extras, Scale::read(weights));
         }
-        Ran::Unfit
+        Err(Stop::Unfit)
     }
 
     // The end of the stream: none where a lead is pending, at no byte. A held score counts nothing, and stays.
-    pub fn close(self) -> Ran
+    pub fn close(self) -> Ran<EucKr>
         ensures { result ≡ closed_of self }
     {
         if self.is_sound_for(lengths::ROOM) {
             if self.lead == 0 {
-                return Ran::Live(self, 0);
+                return Ok((self, 0));
             }
-            return Ran::Dropped(Reason::CutAtClose, 0);
+            return Err(Stop::Dropped(Reason::CutAtClose, 0));
         }
-        Ran::Unfit
+        Err(Stop::Unfit)
     }
 }
 

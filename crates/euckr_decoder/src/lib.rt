@@ -4,15 +4,12 @@
 ghost use Rattle.std.specs.Prelude.{◌≡◌, true};
 ghost use Rattle.euckr_decoder.specs.Standard.{is_trail, pointer_of, pair_of, decode_of, reply_of};
 
-use pairs::{Decoded, Event, Reply};
+use pairs::{Decoded, Event};
 
 pub fn is_trail(b: u8) -> bool
     ensures { result ≡ is_trail b }
 {
-    if b < 0x41 {
-        return false;
-    }
-    b < 0xFF
+    matches!(b, 0x41..=0xFE)
 }
 
 fn pointer(lead: u8, b: u8) -> usize
@@ -23,6 +20,7 @@ fn pointer(lead: u8, b: u8) -> usize
 }
 
 // A lead and the byte after it.
+#[tactic(auto, unfolding(crate::specs::Standard::pair_of, pairs::specs::Standard::indexed, pairs::specs::Standard::returned, pairs::specs::Events::event_of, pairs::specs::Events::points_as))]
 fn pair(lead: u8, b: u8, index: &[u32]) -> Event
     ensures { result ≡ pair_of index.now lead b }
 {
@@ -36,24 +34,28 @@ fn pair(lead: u8, b: u8, index: &[u32]) -> Event
 }
 
 // A byte after a lead, or after none, which is 0. What the index does not have is not mapped.
+// `decode` and `decoded` of Big5 read the same, but for the pair and the index's length. A trait that names the layout, the
+// points, the length and the pair, and an impl of it for each encoding, would be as long as the four functions.
+#[tactic(auto, unfolding(crate::specs::Standard::decode_of, crate::specs::Standard::pair_of), using(pairs::specs::PairsLaws::returned_lead))]
 pub fn decode(lead: u8, b: u8, index: &[u32]) -> Decoded
     ensures { result ≡ decode_of index.now lead b }
 {
     if lead == 0 {
         return pairs::first(b);
     }
-    let event = pair(lead, b, index);
-    Decoded { lead: 0, event }
+    Decoded {
+        lead: 0,
+        event: pair(lead, b, index),
+    }
 }
 
 // The decoder alone: a lead, or 0, and a byte, over an index of the right length.
-pub fn decoded(lead: u8, b: u8, index: &[u32]) -> Reply
+#[tactic(auto, unfolding(crate::specs::Standard::reply_of))]
+pub fn decoded(lead: u8, b: u8, index: &[u32]) -> Option<Decoded>
     ensures { result ≡ reply_of index.now lead b }
 {
-    if pairs::is_lead_or_none(lead) {
-        if index.len() == lengths::EUC_KR {
-            return Reply::Byte(decode(lead, b, index));
-        }
+    if pairs::is_lead_or_none(lead) && index.len() == lengths::EUC_KR {
+        return Some(decode(lead, b, index));
     }
-    Reply::Unfit
+    None
 }

@@ -1,7 +1,9 @@
 // Every pair of bytes through a decoder, compared with the index: where a lead is pending, the entries stand in the order of
 // the leads and, for a lead, of its trails.
-use crate::STDOUT_FILENO;
-use pairs::{Event, Reply};
+ghost use Rattle.std.specs.Prelude.{◌<◌};
+
+use pairs::{Decoded, Event};
+use scribe::STDOUT_FILENO;
 
 // What the pairs gave: the index's own entry, a special, an error of one byte or of two, or anything else.
 #[derive(Clone, Copy)]
@@ -14,7 +16,7 @@ struct Counts {
 }
 
 fn next(n: u64) -> u64 {
-    std::num::wrapping_add_u64(n, 1)
+    n.wrapping_add(1)
 }
 
 impl Counts {
@@ -28,203 +30,104 @@ impl Counts {
         }
     }
 
-    fn with_mapped(self) -> Counts {
-        Counts {
-            mapped: next(self.mapped),
-            special: self.special,
-            one: self.one,
-            two: self.two,
-            other: self.other,
-        }
-    }
-
-    fn with_special(self) -> Counts {
-        Counts {
-            mapped: self.mapped,
-            special: next(self.special),
-            one: self.one,
-            two: self.two,
-            other: self.other,
-        }
-    }
-
-    fn with_error(self, size: u8) -> Counts {
-        if size == 1 {
-            return Counts {
-                mapped: self.mapped,
-                special: self.special,
-                one: next(self.one),
-                two: self.two,
-                other: self.other,
-            };
-        }
-        Counts {
-            mapped: self.mapped,
-            special: self.special,
-            one: self.one,
-            two: next(self.two),
-            other: self.other,
-        }
-    }
-
-    fn with_other(self) -> Counts {
-        Counts {
-            mapped: self.mapped,
-            special: self.special,
-            one: self.one,
-            two: self.two,
-            other: next(self.other),
-        }
-    }
-
     // One pair's answer, where the index has this entry.
-    fn with(self, reply: Reply, at: usize, entry: u32) -> Counts {
+    fn with(self, reply: Option<Decoded>, at: usize, entry: u32) -> Counts {
         match reply {
-            Reply::Unfit => self.with_other(),
-            Reply::Byte(d) => {
-                let event = d.event;
-                self.with_event(event, at, entry)
-            }
+            Some(decoded) => self.with_event(decoded.event, at, entry),
+            None => self.with_other(),
         }
     }
 
     fn with_event(self, event: Event, at: usize, entry: u32) -> Counts {
         match event {
             Event::Pending => self.with_other(),
-            Event::Point(point) => self.with_point(point, entry),
-            Event::Two(p, q) => self.with_two(p, q, at),
-            Event::Error(size) => self.with_error(size),
+            Event::Point(point) => {
+                if point != entry {
+                    return self.with_other();
+                }
+                let mapped = next(self.mapped);
+                Counts { mapped, ..self }
+            }
+            Event::Two(p, q) => {
+                if !is_special(p, q, at) {
+                    return self.with_other();
+                }
+                let special = next(self.special);
+                Counts { special, ..self }
+            }
+            Event::Error(size) => {
+                if size == 1 {
+                    let one = next(self.one);
+                    return Counts { one, ..self };
+                }
+                let two = next(self.two);
+                Counts { two, ..self }
+            }
         }
     }
 
-    fn with_point(self, point: u32, entry: u32) -> Counts {
-        if point == entry {
-            return self.with_mapped();
-        }
-        self.with_other()
-    }
-
-    fn with_two(self, p: u32, q: u32, at: usize) -> Counts {
-        if is_special(p, q, at) {
-            return self.with_special();
-        }
-        self.with_other()
+    fn with_other(self) -> Counts {
+        let other = next(self.other);
+        Counts { other, ..self }
     }
 
     fn print(self, name: &[u8]) {
         io::write_all(STDOUT_FILENO, name);
-        field(b" mapped ", self.mapped);
-        field(b" special ", self.special);
-        field(b" error-1 ", self.one);
-        field(b" error-2 ", self.two);
-        field(b" other ", self.other);
+        crate::print_field(b" mapped ", self.mapped);
+        crate::print_field(b" special ", self.special);
+        crate::print_field(b" error-1 ", self.one);
+        crate::print_field(b" error-2 ", self.two);
+        crate::print_field(b" other ", self.other);
         io::write_all(STDOUT_FILENO, b"\n");
     }
 }
 
-fn field(name: &[u8], n: u64) {
-    io::write_all(STDOUT_FILENO, name);
-    io::print_decimal(STDOUT_FILENO, n);
-}
-
 fn is_special(p: u32, q: u32, at: usize) -> bool {
-    match at {
-        1133 => is_both(p, q, 0xCA, 0x304),
-        1135 => is_both(p, q, 0xCA, 0x30C),
-        1164 => is_both(p, q, 0xEA, 0x304),
-        1166 => is_both(p, q, 0xEA, 0x30C),
-        _ => false,
-    }
+    matches!(
+        (at, p, q),
+        (1133, 0xCA, 0x304) | (1135, 0xCA, 0x30C) | (1164, 0xEA, 0x304) | (1166, 0xEA, 0x30C)
+    )
 }
 
-fn is_both(p: u32, q: u32, first: u32, second: u32) -> bool {
-    if p == first {
-        return q == second;
+// Every pair of a decoder whose leads, from 0x81 to 0xFE, have so many trails each.
+fn counted<D, T>(index: &[u32], trails: usize, decoded: D, is_trail: T) -> Counts
+where
+    D: Fn(u8, u8) -> Option<Decoded>,
+    T: Fn(u8) -> bool,
+    requires decodes { D.IsAlwaysCallable decoded }
+    requires tells { T.IsAlwaysCallable is_trail }
+    requires few { trails < 256 }
+{
+    let mut counts = Counts::none();
+    for lead in 0x81..=0xFE {
+        let mut at = usize::from(lead - 0x81) * trails;
+        for b in 0..=u8::MAX {
+            let entry = index.get(at).copied().unwrap_or(0);
+            counts = counts.with(decoded(lead, b), at, entry);
+            if is_trail(b) {
+                at = at.wrapping_add(1);
+            }
+        }
     }
-    false
-}
-
-fn entry_at(index: &[u32], at: usize) -> u32 {
-    if at < index.len() {
-        return index[at];
-    }
-    0
-}
-
-fn is_big5_trail(b: u8) -> bool {
-    match b {
-        0x40..=0x7E | 0xA1..=0xFE => true,
-        _ => false,
-    }
-}
-
-fn is_euckr_trail(b: u8) -> bool {
-    match b {
-        0x41..=0xFE => true,
-        _ => false,
-    }
-}
-
-// One more where it is so.
-fn step(at: usize, so: bool) -> usize {
-    if so {
-        std::num::wrapping_add_usize(at, 1)
-    } else {
-        at
-    }
-}
-
-// The pairs of one lead, whose entries begin at `from`.
-fn big5_lead(counts: Counts, lead: u8, index: &[u32], from: usize) -> Counts {
-    let mut c = counts;
-    let mut at = from;
-    let mut k: usize = 0;
-    while k < 256 {
-        let b = k as u8;
-        c = c.with(
-            big5_decoder::decoded(lead, b, index),
-            at,
-            entry_at(index, at),
-        );
-        at = step(at, is_big5_trail(b));
-        k += 1;
-    }
-    c
-}
-
-fn euckr_lead(counts: Counts, lead: u8, index: &[u32], from: usize) -> Counts {
-    let mut c = counts;
-    let mut at = from;
-    let mut k: usize = 0;
-    while k < 256 {
-        let b = k as u8;
-        c = c.with(
-            euckr_decoder::decoded(lead, b, index),
-            at,
-            entry_at(index, at),
-        );
-        at = step(at, is_euckr_trail(b));
-        k += 1;
-    }
-    c
+    counts
 }
 
 pub(crate) fn big5(index: &[u32]) {
-    let mut c = Counts::none();
-    let mut lead: usize = 0x81;
-    while lead < 0xFF {
-        c = big5_lead(c, lead as u8, index, (lead - 0x81) * 157);
-        lead += 1;
-    }
-    c.print(b"big5 pairs");
+    counted(
+        index,
+        157,
+        |lead, b| big5_decoder::decoded(lead, b, index),
+        |b| matches!(b, 0x40..=0x7E | 0xA1..=0xFE),
+    )
+    .print(b"big5 pairs");
 }
 
 pub(crate) fn euckr(index: &[u32]) {
-    let mut c = Counts::none();
-    let mut lead: usize = 0x81;
-    while lead < 0xFF {
-        c = euckr_lead(c, lead as u8, index, (lead - 0x81) * 190);
-        lead += 1;
-    }
-    c.print(b"euc-kr pairs");
+    counted(
+        index,
+        190,
+        |lead, b| euckr_decoder::decoded(lead, b, index),
+        |b| matches!(b, 0x41..=0xFE),
+    )
+    .print(b"euc-kr pairs");
 }

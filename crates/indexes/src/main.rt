@@ -5,140 +5,59 @@
 
 mod decoders;
 
-ghost use Rattle.std.specs.Prelude.{◌≡◌, ◌+◌, ◌^◌, ◌<◌, ◌≤◌, length};
+ghost use Rattle.std.specs.Prelude.{◌≤◌, IfOk, length};
 
 use iso2022jp::Iso2022Jp;
 use reader::fill;
+use scribe::STDOUT_FILENO;
 use std::fs::File;
 use std::io::Result;
 use std::os::fd::AsRawFd;
 use std::rt::Files;
 
-// A descriptor that each program has.
-pub(crate) const STDOUT_FILENO: i32 = 1;
+// Entries of a file at most.
+const MOST: usize = 24576;
 
-// What a stretch of an index holds.
-#[derive(Clone, Copy)]
-struct Tally {
-    mapped: u64,
-    lowest: u64,
-    highest: u64,
-}
-
-impl Tally {
-    fn empty() -> Tally
-        ensures { result.mapped ≡ 0 }
-    {
-        Tally {
-            mapped: 0,
-            lowest: 0,
-            highest: 0,
-        }
-    }
-
-    // The tally with one more mapped pointer, which lies above those before it.
-    fn with(self, pointer: u64) -> Tally
-        requires { (self.mapped ≤ pointer) × (pointer < 2 ^ 62) }
-        ensures { result.mapped ≤ pointer + 1 }
-    {
-        if self.mapped == 0 {
-            return Tally {
-                mapped: 1,
-                lowest: pointer,
-                highest: pointer,
-            };
-        }
-        Tally {
-            mapped: self.mapped + 1,
-            lowest: self.lowest,
-            highest: pointer,
-        }
-    }
-
-    fn print(self) {
-        field(b" mapped ", self.mapped);
-        field(b" lowest ", self.lowest);
-        field(b" highest ", self.highest);
-        io::write_all(STDOUT_FILENO, b"\n");
-    }
-}
-
-fn field(name: &[u8], n: u64) {
+// What can't be written is passed over, and the program goes on: `println!` would give each call a Result to throw away.
+fn print_field(name: &[u8], n: u64) {
     io::write_all(STDOUT_FILENO, name);
     io::print_decimal(STDOUT_FILENO, n);
 }
 
-fn tally_of(index: &[u32]) -> Tally
-    requires { length index.now ≤ 24576 }
-{
-    let mut t = Tally::empty();
-    let mut pointer = 0;
-    while pointer < index.len() {
-        if index[pointer] != 0 {
-            t = t.with(pointer as u64);
-        }
-        pointer += 1;
-    }
-    t
-}
-
-fn show(name: &[u8], index: &[u32])
-    requires { length index.now ≤ 24576 }
-{
+fn show(name: &[u8], index: &[u32]) {
+    let mapped = index.iter().filter(|entry| **entry != 0).count();
+    let lowest = index.iter().position(|entry| *entry != 0).unwrap_or(0);
+    let highest = index.iter().rposition(|entry| *entry != 0).unwrap_or(0);
     io::write_all(STDOUT_FILENO, name);
-    field(b" entries ", index.len() as u64);
-    tally_of(index).print();
+    print_field(b" entries ", index.len() as u64);
+    print_field(b" mapped ", mapped as u64);
+    print_field(b" lowest ", lowest as u64);
+    print_field(b" highest ", highest as u64);
+    io::write_all(STDOUT_FILENO, b"\n");
 }
 
-// A descriptor's entries, and how many they are; none where it can't be read.
-fn read(fd: i32, index: &mut [u32]) -> usize
-    ensures { result ≤ 24576 }
+// Reads a file's entries; answers how many they are, none where it can't be read.
+fn read(rt: &impl Files<File = File>, name: &str, index: &mut [u32; MOST]) -> Result<usize>
+    ensures { IfOk result (λ n. n ≤ 24576) }
 {
-    let mut bytes = [0u8; 98304];
-    let n = io::read_full(fd, &mut bytes);
-    fill::words(&bytes[..n], index);
-    n / 4
-}
-
-fn fewer(n: usize, most: usize) -> usize
-    ensures { result ≤ n }
-{
-    if most < n {
-        return most;
-    }
-    n
-}
-
-fn big5(rt: &impl Files<File = File>) -> Result<()> {
-    let file = File::open(rt, "index-big5.u32le")?;
-    let mut index = [0u32; 24576];
-    let n = read(file.as_raw_fd(), &mut index);
-    show(b"big5", &index[0..n]);
-    decoders::big5(&index[0..n]);
-    Ok(())
-}
-
-fn euckr(rt: &impl Files<File = File>) -> Result<()> {
-    let file = File::open(rt, "index-euc-kr.u32le")?;
-    let mut index = [0u32; 24576];
-    let n = read(file.as_raw_fd(), &mut index);
-    show(b"euc-kr", &index[0..n]);
-    decoders::euckr(&index[0..n]);
-    Ok(())
-}
-
-// The JIS X 0208 index, and that part of it which ISO-2022-JP reads.
-fn jis0208(rt: &impl Files<File = File>) -> Result<()> {
-    let file = File::open(rt, "index-jis0208.u32le")?;
-    let mut index = [0u32; 24576];
-    let n = read(file.as_raw_fd(), &mut index);
-    show(b"jis0208", &index[0..n]);
-    show(b"jis0208", &index[0..fewer(n, Iso2022Jp::FIRST)]);
-    Ok(())
+    let file = File::open(rt, name)?;
+    let mut bytes = [0u8; 4 * MOST];
+    let n = io::read_full(file.as_raw_fd(), &mut bytes);
+    fill::entries(&bytes[..n], index);
+    Ok(n / 4)
 }
 
 fn main(rt: HostRuntime) -> Result<()> {
-    big5(&rt)?;
-    euckr(&rt)?;
-    jis0208(&rt)
+    let mut index = [0u32; MOST];
+    let big5 = read(&rt, "index-big5.u32le", &mut index)?;
+    show(b"big5", &index[..big5]);
+    decoders::big5(&index[..big5]);
+    let euckr = read(&rt, "index-euc-kr.u32le", &mut index)?;
+    show(b"euc-kr", &index[..euckr]);
+    decoders::euckr(&index[..euckr]);
+    // that, and the part of it which ISO-2022-JP reads
+    let jis0208 = read(&rt, "index-jis0208.u32le", &mut index)?;
+    show(b"jis0208", &index[..jis0208]);
+    show(b"jis0208", &index[..jis0208.min(Iso2022Jp::FIRST)]);
+    Ok(())
 }

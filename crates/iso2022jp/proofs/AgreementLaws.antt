@@ -1,6 +1,6 @@
 -- The machine agrees with the Standard's decoder at every byte and at the end, whatever the decoder's variables are; and the
 -- record of variables that the decoder can have is one that the kind can hold.
-use Rattle.std.specs.Prelude.{◌≡◌, Bool, cond, List, [], ◌∷◌, ◌⊎◌, ℕ, ◌≤◌, eqb}
+use Rattle.std.specs.Prelude.{◌≡◌, Bool, cond, List, [], ◌∷◌, ◌⊎◌, ℕ, ◌≤◌, eqb, Option, Some, None}
 use Rattle.std.proofs.Math.Path.{refl, sym, ap}
 use Rattle.std.proofs.Common.{◌∙◌, arith, eqb-true}
 use Rattle.std.proofs.Math.Bool.{true, false}
@@ -13,17 +13,16 @@ use Rattle.laws.specs.Run.{none, run, ended, alive}
 use Rattle.octets.specs.Octets.{between}
 use Rattle.octets.specs.BetweenLaws.{below, between_low, between_high}
 use Rattle.iso2022jp.specs.declared.DecoderState.TheVariants.{LeadByte}
-use Rattle.iso2022jp.specs.declared.Designated.{Designated}
-use Rattle.iso2022jp.specs.declared.Designated.TheVariants.{To, Nothing}
+use Rattle.iso2022jp.specs.declared.OutputState.{OutputState as CodeOutput}
 use Rattle.iso2022jp.specs.Standard.{DecoderState, ascii, roman, katakana, lead_byte, trail_byte, escape_start, escape, OutputState, out_ascii, out_roman, out_katakana, out_lead_byte, as_state, Decoder, variables, initial, is_text_lem, pointer, Set, null, state, set_by, after_set, on_byte, on_end, handler, Reached}
 use Rattle.iso2022jp.specs.Iso2022Jp.{holds, fresh, Sound, leads_escape, indexed_by, is_text, ascii_of, ranged_of, pair_at, trail_of, escape_start_of, designated, state_of, escaped_to, step_in, step_of, close_in, close_of}
 use Rattle.iso2022jp.specs.Iso2022JpLaws.{escape_lead}
 use Rattle.iso2022jp.specs.Agreement.{output_state, record_of, reason_in, reason_of, outcome_of}
 
 -- ---- an escape
-abbrev designation : Set → Designated
-designation null = Nothing
-designation (state o) = To (output_state o)
+abbrev designation : Set → Option CodeOutput
+designation null = None
+designation (state o) = Some (output_state o)
 
 sets : (lead b : ℕ) → designated lead b ≡ designation (set_by lead b)
 unfolding designated set_by

@@ -1,3 +1,2 @@
 pub mod AgreementLaws
 pub mod Determined
-pub mod States

@@ -1,10 +1,12 @@
 -- The ISO-2022-JP machine: the Standard's states, the pending lead and the output flag. A byte changes no score.
-use Rattle.std.specs.Prelude.{◌≡◌, Bool, true, false, cond, not, ◌&&◌, ◌||◌, List, [], ◌∷◌, ◌⊎◌, ℕ, ◌+◌, ◌-◌, ◌*◌, ◌≤◌, eqb, ℤ, get_or}
+use Rattle.std.specs.Prelude.{◌≡◌, Bool, true, false, cond, not, ◌&&◌, ◌||◌, List, [], ◌∷◌, ◌⊎◌, ℕ, ◌+◌, ◌-◌, ◌*◌, ◌≤◌, eqb, get_or, Option, Some, None, Result, Ok, Err}
 use Rattle.laws.specs.Lists.{is_in}
 use Rattle.lengths.specs.Lengths.{jis_count}
-use Rattle.laws.specs.Answer.{answered, answered_if}
+use Rattle.laws.specs.Answer.{reached, tested}
+use Rattle.laws.specs.declared.Reason.{Reason}
 use Rattle.laws.specs.declared.Reason.TheVariants.{BadByte, BrokenEscape, CutAtClose}
-use Rattle.laws.specs.Run.{Outcome, none, live, alive, run, last_at}
+use Rattle.laws.specs.declared.Stop.{Stop}
+use Rattle.laws.specs.Run.{Outcome, none, alive, run, last_at}
 use Rattle.octets.specs.Octets.{between}
 use Rattle.entries.specs.Entries.{is_mapped}
 use Rattle.entries.specs.Ready.{Ready as ReadyFor, ready_b}
@@ -12,13 +14,7 @@ use Rattle.iso2022jp.specs.declared.DecoderState.{DecoderState}
 use Rattle.iso2022jp.specs.declared.DecoderState.TheVariants.{Ascii, Roman, Katakana, LeadByte, TrailByte, EscapeStart, Escape}
 use Rattle.iso2022jp.specs.declared.OutputState.{OutputState}
 use Rattle.iso2022jp.specs.declared.OutputState.TheVariants.{Ascii as OutAscii, Roman as OutRoman, Katakana as OutKatakana, LeadByte as OutLeadByte}
-use Rattle.iso2022jp.specs.declared.Designated.{Designated}
-use Rattle.iso2022jp.specs.declared.Designated.TheVariants.{To, Nothing}
 use Rattle.iso2022jp.specs.declared.Iso2022Jp.{Iso2022Jp}
-use Rattle.iso2022jp.specs.declared.Stepped.{Stepped}
-use Rattle.iso2022jp.specs.declared.Stepped.TheVariants.{Alive, Invalid}
-use Rattle.iso2022jp.specs.declared.Ran.{Ran}
-use Rattle.iso2022jp.specs.declared.Ran.TheVariants.{Live, Dropped, Unfit}
 
 -- ---- records
 abbrev pub holds : DecoderState → OutputState → ℕ → Bool → Iso2022Jp
@@ -114,12 +110,12 @@ unfoldable pub escape_start_of : Iso2022Jp → ℕ → Outcome Iso2022Jp
 escape_start_of m b = cond (leads_escape b) (alive (holds Escape m.out b m.output)) (none BrokenEscape)
 
 -- what an escape's two bytes designate
-unfoldable pub designated : ℕ → ℕ → Designated
+unfoldable pub designated : ℕ → ℕ → Option OutputState
 designated lead b =
-    cond (eqb lead 0x28 && eqb b 0x42) (To OutAscii)
-    (cond (eqb lead 0x28 && eqb b 0x4A) (To OutRoman)
-    (cond (eqb lead 0x28 && eqb b 0x49) (To OutKatakana)
-    (cond (eqb lead 0x24 && (eqb b 0x40 || eqb b 0x42)) (To OutLeadByte) Nothing)))
+    cond (eqb lead 0x28 && eqb b 0x42) (Some OutAscii)
+    (cond (eqb lead 0x28 && eqb b 0x4A) (Some OutRoman)
+    (cond (eqb lead 0x28 && eqb b 0x49) (Some OutKatakana)
+    (cond (eqb lead 0x24 && (eqb b 0x40 || eqb b 0x42)) (Some OutLeadByte) None)))
 
 unfoldable pub state_of : OutputState → DecoderState
 state_of OutAscii = Ascii
@@ -127,9 +123,9 @@ state_of OutRoman = Roman
 state_of OutKatakana = Katakana
 state_of OutLeadByte = LeadByte
 
-unfoldable pub escaped_to : Bool → Designated → Outcome Iso2022Jp
-escaped_to output Nothing = none BrokenEscape
-escaped_to output (To o) = cond output (none BrokenEscape) (alive (holds (state_of o) o 0 true))
+unfoldable pub escaped_to : Bool → Option OutputState → Outcome Iso2022Jp
+escaped_to output None = none BrokenEscape
+escaped_to output (Some o) = cond output (none BrokenEscape) (alive (holds (state_of o) o 0 true))
 
 abbrev pub escape_of : Iso2022Jp → ℕ → Outcome Iso2022Jp
 escape_of m b = escaped_to m.output (designated m.lead b)
@@ -164,24 +160,18 @@ abbrev pub close_of : Iso2022Jp → Outcome Iso2022Jp
 close_of m = close_in m.state m
 
 -- ---- the code's answers
-abbrev pub out_of : Stepped → Outcome Iso2022Jp
-out_of (Alive m g) = live m g
-out_of (Invalid why) = none why
-
--- the change of the score, which is 0, is not told
-abbrev living : Iso2022Jp → ℤ → Ran
-living m s = Live m
-
-abbrev pub ran_as : ℕ → Outcome Iso2022Jp → Ran
-ran_as at o = answered living Dropped at o
+abbrev pub out_of : Result Iso2022Jp Reason → Outcome Iso2022Jp
+out_of (Ok m) = alive m
+out_of (Err why) = none why
 
 -- over the index of the right length
 abbrev pub Ready : List ℕ → Iso2022Jp → List ℕ → Type 0
 Ready index m xs = ReadyFor (Sound m) jis_count index xs
 
-unfoldable pub ran_of : List ℕ → Iso2022Jp → List ℕ → Ran
-ran_of index m xs = answered_if living Dropped Unfit (ready_b (sound_b m) jis_count index xs) (last_at (step_of index) (alive m) xs) (run (step_of index) (alive m) xs)
+-- the change of the score, which is 0, is not told
+unfoldable pub ran_of : List ℕ → Iso2022Jp → List ℕ → Result Iso2022Jp Stop
+ran_of index m xs = tested (ready_b (sound_b m) jis_count index xs) (reached (last_at (step_of index) (alive m) xs) (run (step_of index) (alive m) xs))
 
 -- the end takes no byte
-unfoldable pub closed_of : Iso2022Jp → Ran
-closed_of m = answered_if living Dropped Unfit (sound_b m) 0 (close_of m)
+unfoldable pub closed_of : Iso2022Jp → Result Iso2022Jp Stop
+closed_of m = tested (sound_b m) (reached 0 (close_of m))

@@ -1,5 +1,5 @@
 -- What holds of the ISO-2022-JP machine's definitions, and each way through the code.
-use Rattle.std.specs.Prelude.{◌≡◌, Bool, not, ◌||◌, List, [], ◌∷◌, ◌⊎◌, ℕ, ◌≤◌, eqb, ℤ, pos}
+use Rattle.std.specs.Prelude.{◌≡◌, Bool, not, ◌||◌, List, [], ◌∷◌, ◌⊎◌, ℕ, ◌≤◌, eqb, ℤ, pos, Option, Some, None}
 use Rattle.std.proofs.Math.Path.{refl, sym}
 use Rattle.std.proofs.Common.{ap, subst, ◌∙◌, arith}
 use Rattle.std.proofs.Math.Bool.{true, false}
@@ -8,7 +8,7 @@ use Rattle.std.proofs.Math.Dec.{ltb}
 use borrow.Author.Tests.{eq-eqb, ne_eqb, eqb-true, ltb-true, ltb-false, not-true}
 use Rattle.laws.specs.Lists.{any, is_in}
 use Rattle.lengths.specs.Lengths.{jis_count}
-use Rattle.laws.specs.Answer.{if_fit}
+use Rattle.laws.specs.Answer.{reached, if_fit}
 use Rattle.laws.specs.declared.Reason.{Reason}
 use Rattle.laws.specs.declared.Reason.TheVariants.{BadByte, BrokenEscape, CutAtClose}
 use Rattle.laws.specs.Run.{Outcome, none, live, run, last_at, alive}
@@ -20,11 +20,9 @@ use Rattle.iso2022jp.specs.declared.DecoderState.{DecoderState}
 use Rattle.iso2022jp.specs.declared.DecoderState.TheVariants.{Ascii, Roman, Katakana, LeadByte, TrailByte, EscapeStart, Escape}
 use Rattle.iso2022jp.specs.declared.OutputState.{OutputState}
 use Rattle.iso2022jp.specs.declared.OutputState.TheVariants.{Ascii as OutAscii, Roman as OutRoman, Katakana as OutKatakana, LeadByte as OutLeadByte}
-use Rattle.iso2022jp.specs.declared.Designated.{Designated}
-use Rattle.iso2022jp.specs.declared.Designated.TheVariants.{To, Nothing}
 use Rattle.iso2022jp.specs.declared.Iso2022Jp.{Iso2022Jp}
 use Rattle.entries.specs.Ready.{true_ready}
-use Rattle.iso2022jp.specs.Iso2022Jp.{Passes, holds, fresh, LeadIn, Sound, leads_escape, lead_in_b, sound_b, indexed_by, escape_byte, put_out, is_text, ascii_of, ranged_of, pair_at, trail_of, escape_start_of, designated, state_of, escaped_to, step_in, step_of, close_in, close_of, ran_as, Ready, ran_of, closed_of}
+use Rattle.iso2022jp.specs.Iso2022Jp.{Passes, holds, fresh, LeadIn, Sound, leads_escape, lead_in_b, sound_b, indexed_by, escape_byte, put_out, is_text, ascii_of, ranged_of, pair_at, trail_of, escape_start_of, designated, state_of, escaped_to, step_in, step_of, close_in, close_of, Ready, ran_of, closed_of}
 
 -- ---- a byte in ASCII and Roman
 module _ (b : ℕ) where
@@ -63,7 +61,7 @@ text_passes m b h e o t =
     subst (λ (n : Iso2022Jp). Passes n b) r (passes_at m.out b t)
 
 -- ---- an escape to lead byte
-pub lead_byte_designated : (lead b : ℕ) → lead ≡ 0x24 → (b ≡ 0x40) ⊎ (b ≡ 0x42) → To OutLeadByte ≡ designated lead b
+pub lead_byte_designated : (lead b : ℕ) → lead ≡ 0x24 → (b ≡ 0x40) ⊎ (b ≡ 0x42) → Some OutLeadByte ≡ designated lead b
 unfolding designated
 lead_byte_designated lead b l (inl e) = rw (l, e)
 lead_byte_designated lead b l (inr e) = rw (l, e)
@@ -134,10 +132,10 @@ state_lead OutRoman = refl
 state_lead OutKatakana = refl
 state_lead OutLeadByte = refl
 
-escaped_keeps : (output : Bool) (t : Designated) → Kept (escaped_to output t)
+escaped_keeps : (output : Bool) (t : Option OutputState) → Kept (escaped_to output t)
 unfolding escaped_to
-escaped_keeps output Nothing = tt
-escaped_keeps output (To o) = either Kept output (λ e. tt) (λ e. (state_lead o, refl))
+escaped_keeps output None = tt
+escaped_keeps output (Some o) = either Kept output (λ e. tt) (λ e. (state_lead o, refl))
 
 in_keeps : (index : List ℕ) (state : DecoderState) (m : Iso2022Jp) (b : ℕ) → Kept (step_in index state m b)
 unfolding step_in
@@ -185,10 +183,10 @@ module _ (m : Iso2022Jp) (b : ℕ) where
   unfolding escape_start_of
   start_explained = either Explained (leads_escape b) (λ e. tt) (λ e. inr refl)
 
-escaped_explained : (output : Bool) (t : Designated) → Explained (escaped_to output t)
+escaped_explained : (output : Bool) (t : Option OutputState) → Explained (escaped_to output t)
 unfolding escaped_to
-escaped_explained output Nothing = inr refl
-escaped_explained output (To o) = either Explained output (λ e. inr refl) (λ e. tt)
+escaped_explained output None = inr refl
+escaped_explained output (Some o) = either Explained output (λ e. inr refl) (λ e. tt)
 
 in_explained : (index : List ℕ) (state : DecoderState) (m : Iso2022Jp) (b : ℕ) → Explained (step_in index state m b)
 unfolding step_in
@@ -224,10 +222,10 @@ close_reason m d e = rw e at (close_cut m.state m)
 -- ---- what a call gives
 module _ (index : List ℕ) (m : Iso2022Jp) (xs : List ℕ) where
   -- a caller that tested
-  pub ran_ready : Ready index m xs → ran_of index m xs ≡ ran_as (last_at (step_of index) (alive m) xs) (run (step_of index) (alive m) xs)
+  pub ran_ready : Ready index m xs → ran_of index m xs ≡ reached (last_at (step_of index) (alive m) xs) (run (step_of index) (alive m) xs)
   unfolding ran_of
-  ran_ready r = if_fit _ _ _ _ _ _ (true_ready (sound_b m) jis_count index xs (true_sound m) r)
+  ran_ready r = if_fit _ _ (true_ready (sound_b m) jis_count index xs (true_sound m) r)
 
-pub closed_ready : (m : Iso2022Jp) → Sound m → closed_of m ≡ ran_as 0 (close_of m)
+pub closed_ready : (m : Iso2022Jp) → Sound m → closed_of m ≡ reached 0 (close_of m)
 unfolding closed_of
-closed_ready m h = if_fit _ _ _ _ _ _ (true_sound m h)
+closed_ready m h = if_fit _ _ (true_sound m h)

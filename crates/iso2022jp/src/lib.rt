@@ -2,14 +2,15 @@
 #![tactic(auto)]
 
 ghost use Rattle.std.specs.Prelude.{◌≡◌, true, ◌≤◌, length};
+ghost use Rattle.laws.specs.Answer.{reached};
 ghost use Rattle.laws.specs.Run.{run, last_at, alive};
 ghost use Rattle.lengths.specs.Lengths.{jis_count};
-ghost use Rattle.octets.specs.Octets.{between};
-ghost use Rattle.iso2022jp.specs.Iso2022Jp.{Sound, Passes, ascii_of, closed_of, designated, escape_of, escape_start_of, fresh, is_text, katakana_of, lead_of, leads_escape, out_of, ran_as, ran_of, ranged_of, sound_b, started, state_of, step_of, trail_of};
+ghost use Rattle.iso2022jp.specs.Iso2022Jp.{Sound, Passes, ascii_of, closed_of, designated, escape_of, escape_start_of, fresh, is_text, katakana_of, lead_of, leads_escape, out_of, ran_of, ranged_of, sound_b, started, state_of, step_of, trail_of};
 
-use laws::Reason;
+use entries::ready::is_ready;
+use laws::{Reason, Stop};
 
-#[derive(Clone, Copy)]
+#[derive(Clone, Copy, PartialEq, Eq)]
 pub enum DecoderState {
     Ascii,
     Roman,
@@ -21,7 +22,7 @@ pub enum DecoderState {
 }
 
 // The states that an escape can set.
-#[derive(Clone, Copy)]
+#[derive(Clone, Copy, PartialEq, Eq)]
 pub enum OutputState {
     Ascii,
     Roman,
@@ -29,8 +30,22 @@ pub enum OutputState {
     LeadByte,
 }
 
+impl From<OutputState> for DecoderState {
+    ghost from_gives = { λ out state. state ≡ state_of out };
+
+    #[tactic(auto, unfolding(crate::specs::Iso2022Jp::state_of))]
+    fn from(out: OutputState) -> DecoderState {
+        match out {
+            OutputState::Ascii => DecoderState::Ascii,
+            OutputState::Roman => DecoderState::Roman,
+            OutputState::Katakana => DecoderState::Katakana,
+            OutputState::LeadByte => DecoderState::LeadByte,
+        }
+    }
+}
+
 // Between two bytes. The lead is 0 where none is pending; output is true where nothing came out since the last escape.
-#[derive(Clone, Copy)]
+#[derive(Clone, Copy, PartialEq, Eq)]
 pub struct Iso2022Jp {
     pub state: DecoderState,
     pub out: OutputState,
@@ -38,47 +53,15 @@ pub struct Iso2022Jp {
     pub output: bool,
 }
 
-#[derive(Clone, Copy)]
-enum Designated {
-    To(OutputState),
-    Nothing,
-}
-
-// The record after a byte and the change of the score, which is 0; or why there is none.
-#[derive(Clone, Copy)]
-enum Stepped {
-    Alive(Iso2022Jp, i64),
-    Invalid(Reason),
-}
-
-// What a stretch, or the end of the stream, leaves: the record; or why it drops out and at which offset in the stretch, 0 at
-// the end; or the record, the stretch or the index was not fit.
-#[derive(Clone, Copy)]
-pub enum Ran {
-    Live(Iso2022Jp),
-    Dropped(Reason, usize),
-    Unfit,
-}
-
-fn is_between(low: u8, high: u8, b: u8) -> bool
-    ensures { result ≡ between low high b }
-{
-    if low <= b {
-        return b <= high;
-    }
-    false
-}
-
 fn is_escape_lead(b: u8) -> bool
     ensures { result ≡ leads_escape b }
 {
-    if b == 0x24 {
-        return true;
-    }
-    b == 0x28
+    matches!(b, 0x24 | 0x28)
 }
 
-// Whether ASCII and Roman put the byte out.
+// Whether ASCII and Roman put the byte out. Three tests and no `matches!`: with one the loop takes 14 instructions for each byte
+// of plain text in place of 8.
+#[tactic(auto, unfolding(crate::specs::Iso2022Jp::is_text, laws::specs::Lists::any))]
 fn is_text(b: u8) -> bool
     ensures { result ≡ is_text b }
 {
@@ -95,34 +78,16 @@ fn is_text(b: u8) -> bool
 }
 
 // What an escape's last two bytes designate.
-fn designate(lead: u8, b: u8) -> Designated
+#[tactic(auto, unfolding(crate::specs::Iso2022Jp::designated))]
+fn designate(lead: u8, b: u8) -> Option<OutputState>
     ensures { result ≡ designated lead b }
 {
-    if lead == 0x28 {
-        return match b {
-            0x42 => Designated::To(OutputState::Ascii),
-            0x4A => Designated::To(OutputState::Roman),
-            0x49 => Designated::To(OutputState::Katakana),
-            _ => Designated::Nothing,
-        };
-    }
-    if lead == 0x24 {
-        return match b {
-            0x40 | 0x42 => Designated::To(OutputState::LeadByte),
-            _ => Designated::Nothing,
-        };
-    }
-    Designated::Nothing
-}
-
-fn decoder_state(out: OutputState) -> DecoderState
-    ensures { result ≡ state_of out }
-{
-    match out {
-        OutputState::Ascii => DecoderState::Ascii,
-        OutputState::Roman => DecoderState::Roman,
-        OutputState::Katakana => DecoderState::Katakana,
-        OutputState::LeadByte => DecoderState::LeadByte,
+    match (lead, b) {
+        (0x28, 0x42) => Some(OutputState::Ascii),
+        (0x28, 0x4A) => Some(OutputState::Roman),
+        (0x28, 0x49) => Some(OutputState::Katakana),
+        (0x24, 0x40 | 0x42) => Some(OutputState::LeadByte),
+        _ => None,
     }
 }
 
@@ -144,177 +109,151 @@ impl Iso2022Jp {
     }
 
     // Whether the record is one that the kind can hold.
+    #[tactic(auto, unfolding(crate::specs::Iso2022Jp::lead_in_b))]
     pub fn is_sound(self) -> bool
         ensures { result ≡ sound_b self }
     {
-        let state = self.state;
-        let lead = self.lead;
-        match state {
-            DecoderState::TrailByte => is_between(0x21, 0x7E, lead),
-            DecoderState::Escape => is_escape_lead(lead),
-            _ => lead == 0,
+        match self.state {
+            DecoderState::TrailByte => matches!(self.lead, 0x21..=0x7E),
+            DecoderState::Escape => is_escape_lead(self.lead),
+            _ => self.lead == 0,
         }
     }
 
-    fn start_escape(self) -> Stepped
-        ensures { out_of result ≡ alive (started self) }
+    fn start_escape(self) -> Iso2022Jp
+        ensures { result ≡ started self }
     {
-        let out = self.out;
-        Stepped::Alive(
-            Iso2022Jp {
-                state: DecoderState::EscapeStart,
-                out,
-                lead: 0,
-                output: self.output,
-            },
-            0,
-        )
+        Iso2022Jp {
+            state: DecoderState::EscapeStart,
+            lead: 0,
+            ..self
+        }
     }
 
     // A byte in ASCII and in Roman.
-    fn ascii(self, b: u8) -> Stepped
+    #[tactic(auto, unfolding(crate::specs::Iso2022Jp::ascii_of))]
+    fn ascii(self, b: u8) -> Result<Iso2022Jp, Reason>
         ensures { out_of result ≡ ascii_of self.state self b }
     {
         if b == Iso2022Jp::ESCAPE {
-            return self.start_escape();
+            return Ok(self.start_escape());
         }
         if is_text(b) {
-            let state = self.state;
-            let out = self.out;
-            let next = Iso2022Jp {
-                state,
-                out,
+            return Ok(Iso2022Jp {
                 lead: 0,
                 output: false,
-            };
-            return Stepped::Alive(next, 0);
+                ..self
+            });
         }
-        Stepped::Invalid(Reason::BadByte)
+        Err(Reason::BadByte)
     }
 
     // Whether the byte is text of plain ASCII, which leaves the record as it is: the loop's short way.
+    #[tactic(auto, using(crate::specs::Iso2022JpLaws::text_passes))]
     fn passes(self, b: u8) -> bool
         requires { Sound self }
         ensures { result ≡ true → Passes self b }
     {
-        let state = self.state;
-        let DecoderState::Ascii = state else {
-            return false;
-        };
-        if self.output {
-            return false;
-        }
-        is_text(b)
+        self.state == DecoderState::Ascii && !self.output && is_text(b)
     }
 
     // A byte from 0x21 to the highest gives the next record.
-    fn ranged(self, next: Iso2022Jp, high: u8, b: u8) -> Stepped
+    #[tactic(auto, unfolding(crate::specs::Iso2022Jp::ranged_of))]
+    fn ranged(self, next: Iso2022Jp, high: u8, b: u8) -> Result<Iso2022Jp, Reason>
         ensures { out_of result ≡ ranged_of self next high b }
     {
         if b == Iso2022Jp::ESCAPE {
-            return self.start_escape();
+            return Ok(self.start_escape());
         }
-        if is_between(0x21, high, b) {
-            return Stepped::Alive(next, 0);
+        if (0x21..=high).contains(&b) {
+            return Ok(next);
         }
-        Stepped::Invalid(Reason::BadByte)
+        Err(Reason::BadByte)
     }
 
-    fn katakana(self, b: u8) -> Stepped
+    fn katakana(self, b: u8) -> Result<Iso2022Jp, Reason>
         ensures { out_of result ≡ katakana_of self b }
     {
-        let out = self.out;
         let next = Iso2022Jp {
             state: DecoderState::Katakana,
-            out,
             lead: 0,
             output: false,
+            ..self
         };
         self.ranged(next, 0x5F, b)
     }
 
-    fn lead_byte(self, b: u8) -> Stepped
+    fn lead_byte(self, b: u8) -> Result<Iso2022Jp, Reason>
         ensures { out_of result ≡ lead_of self b }
     {
-        let out = self.out;
         let next = Iso2022Jp {
             state: DecoderState::TrailByte,
-            out,
             lead: b,
             output: false,
+            ..self
         };
         self.ranged(next, 0x7E, b)
     }
 
     // An escape byte is an error here too.
-    fn trail_byte(self, b: u8, index: &[u32]) -> Stepped
+    #[tactic(auto, unfolding(crate::specs::Iso2022Jp::trail_of))]
+    fn trail_byte(self, b: u8, index: &[u32]) -> Result<Iso2022Jp, Reason>
         requires { ((0x21 ≤ self.lead) × (self.lead ≤ 0x7E)) × (length index.now ≡ jis_count) }
         ensures { out_of result ≡ trail_of index.now self b }
     {
-        if !is_between(0x21, 0x7E, b) {
-            return Stepped::Invalid(Reason::BadByte);
+        if !(0x21..=0x7E).contains(&b) {
+            return Err(Reason::BadByte);
         }
         let at = (self.lead - 0x21) as usize * 94 + (b - 0x21) as usize;
         if entries::is_mapped(index[at], false) {
-            let out = self.out;
-            return Stepped::Alive(
-                Iso2022Jp {
-                    state: DecoderState::LeadByte,
-                    out,
-                    lead: 0,
-                    output: self.output,
-                },
-                0,
-            );
+            return Ok(Iso2022Jp {
+                state: DecoderState::LeadByte,
+                lead: 0,
+                ..self
+            });
         }
-        Stepped::Invalid(Reason::BadByte)
+        Err(Reason::BadByte)
     }
 
-    fn escape_start(self, b: u8) -> Stepped
+    #[tactic(auto, unfolding(crate::specs::Iso2022Jp::escape_start_of))]
+    fn escape_start(self, b: u8) -> Result<Iso2022Jp, Reason>
         ensures { out_of result ≡ escape_start_of self b }
     {
         if is_escape_lead(b) {
-            let out = self.out;
-            return Stepped::Alive(
-                Iso2022Jp {
-                    state: DecoderState::Escape,
-                    out,
-                    lead: b,
-                    output: self.output,
-                },
-                0,
-            );
+            return Ok(Iso2022Jp {
+                state: DecoderState::Escape,
+                lead: b,
+                ..self
+            });
         }
-        Stepped::Invalid(Reason::BrokenEscape)
+        Err(Reason::BrokenEscape)
     }
 
     // An escape that follows another, with nothing put out between them, is an error.
-    fn escape(self, b: u8) -> Stepped
+    #[tactic(auto, unfolding(crate::specs::Iso2022Jp::escaped_to))]
+    fn escape(self, b: u8) -> Result<Iso2022Jp, Reason>
         ensures { out_of result ≡ escape_of self b }
     {
-        let Designated::To(out) = designate(self.lead, b) else {
-            return Stepped::Invalid(Reason::BrokenEscape);
+        let Some(out) = designate(self.lead, b) else {
+            return Err(Reason::BrokenEscape);
         };
         if self.output {
-            return Stepped::Invalid(Reason::BrokenEscape);
+            return Err(Reason::BrokenEscape);
         }
-        Stepped::Alive(
-            Iso2022Jp {
-                state: decoder_state(out),
-                out,
-                lead: 0,
-                output: true,
-            },
-            0,
-        )
+        Ok(Iso2022Jp {
+            state: DecoderState::from(out),
+            out,
+            lead: 0,
+            output: true,
+        })
     }
 
-    fn step(self, b: u8, index: &[u32]) -> Stepped
+    #[tactic(auto, unfolding(crate::specs::Iso2022Jp::step_in))]
+    fn step(self, b: u8, index: &[u32]) -> Result<Iso2022Jp, Reason>
         requires { Sound self × (length index.now ≡ jis_count) }
         ensures { out_of result ≡ step_of index.now self b }
     {
-        let state = self.state;
-        match state {
+        match self.state {
             DecoderState::Ascii | DecoderState::Roman => self.ascii(b),
             DecoderState::Katakana => self.katakana(b),
             DecoderState::LeadByte => self.lead_byte(b),
@@ -324,58 +263,47 @@ impl Iso2022Jp {
         }
     }
 
-    fn run_fit(self, part: &[u8], index: &[u32]) -> Ran
+    fn run_fit(self, part: &[u8], index: &[u32]) -> Result<Iso2022Jp, Stop>
         requires { Sound self × (length index.now ≡ jis_count) }
-        ensures { result ≡ ran_as (last_at (step_of index.now) (alive self) part.now) (run (step_of index.now) (alive self) part.now) }
+        ensures { result ≡ reached (last_at (step_of index.now) (alive self) part.now) (run (step_of index.now) (alive self) part.now) }
     {
         let mut m = self;
-        let mut i = 0;
-        while i < part.len() {
-            let b = part[i];
-            if m.passes(b) {
-                i += 1;
+        for i in 0..part.len() {
+            if m.passes(part[i]) {
                 continue;
             }
-            match m.step(b, index) {
-                Stepped::Alive(next, _) => {
-                    m = next;
-                }
-                Stepped::Invalid(reason) => {
-                    return Ran::Dropped(reason, i);
-                }
+            match m.step(part[i], index) {
+                Ok(next) => m = next,
+                Err(reason) => return Err(Stop::Dropped(reason, i)),
             }
-            i += 1;
         }
-        Ran::Live(m)
+        Ok(m)
     }
 
-    // A stretch of bytes, one after the other, over the JIS X 0208 index.
-    pub fn run(self, part: &[u8], index: &[u32]) -> Ran
+    // A stretch of bytes, one after the other, over the JIS X 0208 index. This and `close` read alike in Shift_JIS: a test and a call,
+    // for which a trait is no plainer.
+    pub fn run(self, part: &[u8], index: &[u32]) -> Result<Iso2022Jp, Stop>
         ensures { result ≡ ran_of index.now self part.now }
     {
-        if self.is_sound() {
-            if index.len() == lengths::JIS {
-                if part.len() <= lengths::MOST {
-                    return self.run_fit(part, index);
-                }
-            }
+        if is_ready(self.is_sound(), lengths::JIS, index, part) {
+            return self.run_fit(part, index);
         }
-        Ran::Unfit
+        Err(Stop::Unfit)
     }
 
     // The end of the stream: a pending lead, or an escape that is not whole, drops out.
-    pub fn close(self) -> Ran
+    #[tactic(auto, unfolding(crate::specs::Iso2022Jp::closed_of, crate::specs::Iso2022Jp::close_in, laws::specs::Answer::tested))]
+    pub fn close(self) -> Result<Iso2022Jp, Stop>
         ensures { result ≡ closed_of self }
     {
-        if self.is_sound() {
-            let state = self.state;
-            return match state {
-                DecoderState::TrailByte | DecoderState::EscapeStart | DecoderState::Escape => {
-                    Ran::Dropped(Reason::CutAtClose, 0)
-                }
-                _ => Ran::Live(self),
-            };
+        if !self.is_sound() {
+            return Err(Stop::Unfit);
         }
-        Ran::Unfit
+        match self.state {
+            DecoderState::TrailByte | DecoderState::EscapeStart | DecoderState::Escape => {
+                Err(Stop::Dropped(Reason::CutAtClose, 0))
+            }
+            _ => Ok(self),
+        }
     }
 }

@@ -1,4 +1,4 @@
-pub mod HeadLaws
+pub mod Kind
 pub mod KindLaws
 pub mod Kinds
 pub mod KindsLaws

@@ -7,7 +7,7 @@ use Rattle.laws.specs.Run.{live, run, WhenNone, run_why, none_more}
 use Rattle.laws.specs.declared.Reason.{Reason}
 use Rattle.laws.specs.declared.Reason.TheVariants.{Class255, BadByte, BadSecondByte, BrokenEscape, CutAtClose}
 use Rattle.pairs.specs.PairsLaws.{OfPairs}
-use Rattle.big5.specs.Big5Laws as big5-laws
+use Rattle.big5.proofs.Big5Laws as big5-laws
 use Rattle.big5.specs.Scoring as big5-scoring
 use Rattle.euckr.specs.EucKrLaws as euckr-laws
 use Rattle.euckr.specs.Scoring as euckr-scoring

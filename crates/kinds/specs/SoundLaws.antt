@@ -9,7 +9,7 @@ use Rattle.laws.specs.Run.{Outcome, none, live, run}
 use Rattle.laws.specs.Still.{Ends}
 use Rattle.laws.specs.Tests.{both, either}
 use Rattle.big5.specs.Big5 as big5
-use Rattle.big5.specs.Big5Laws as big5-laws
+use Rattle.big5.proofs.Big5Laws as big5-laws
 use Rattle.big5.specs.Scoring as big5-scoring
 use Rattle.big5.specs.declared.Big5.{Big5 as Big5Record}
 use Rattle.euckr.specs.EucKr as euckr

@@ -1,26 +1,41 @@
 // One machine of the nine, under its kind: what a stretch of bytes and the end of the stream make of it.
-ghost use Rattle.std.specs.Prelude.{[], ◌≡◌, ◌*◌, length};
+ghost use Rattle.std.specs.Prelude.{◌≡◌, ◌*◌, ◌<◌, ℕ, Bool, true, false, length, refl, []};
+ghost use Rattle.laws.specs.Answer.{BoundedBy};
 ghost use Rattle.weights.specs.Weights.{per_byte};
-ghost use Rattle.tables.specs.Own.{own};
-ghost use Rattle.kinds.specs.Kinds.{place_number, fresh_of, of_utf8, of_iso2022_jp, of_euc_kr, of_big5, of_caseless, of_logical, of_visual, of_arabic_french, of_shift_jis, closed_of, ran_at, decoded_end, Bounded, Weighed};
+ghost use Rattle.tables.specs.OwnLists.{own_lists};
+ghost use Rattle.kinds.specs.Kinds.{place_number, fresh_of, wrapped, unchanged, ran_of, closed_of, ran_at, decoded_end, Bounded, Weighed};
+ghost use Rattle.kinds.specs.Sound.{takes_space};
+ghost use Rattle.single.specs.Lists as single;
+ghost use Rattle.tables.specs.Lists.{lists, single_lists};
+ghost use Rattle.tables.specs.Own.{place_count, lent_to, own, own_of, of_single};
+ghost use Rattle.kinds.specs.Kind.{Picked, placed, fresh_utf8, fresh_iso2022jp, fresh_euckr, fresh_big5, fresh_caseless, fresh_logical, fresh_visual, fresh_arabic_french, fresh_shift_jis};
+ghost use Rattle.kinds.specs.declared.machine.Machine.{Machine as Whole};
+ghost use Rattle.kinds.specs.declared.machine.Machine.TheVariants as machine;
+ghost use Rattle.arabic_french.specs.ArabicFrench as arabic_french;
+ghost use Rattle.big5.specs.Scoring as big5;
+ghost use Rattle.caseless_script.specs.Caseless as caseless;
+ghost use Rattle.euckr.specs.Scoring as euckr;
+ghost use Rattle.iso2022jp.specs.Iso2022Jp as iso2022jp;
+ghost use Rattle.logical.specs.Logical as logical;
+ghost use Rattle.shift_jis.specs.ShiftJis as shift_jis;
+ghost use Rattle.utf8.specs.Utf8 as utf8;
+ghost use Rattle.visual.specs.Visual as visual;
 
 use arabic_french::ArabicFrench;
-use big5;
 use big5::Big5;
 use caseless_script::Caseless;
-use euckr;
 use euckr::EucKr;
-use iso2022jp;
 use iso2022jp::Iso2022Jp;
-use laws::Reason;
+use laws::{Ran, Stop};
 use logical::Logical;
-use shift_jis;
 use shift_jis::ShiftJis;
-use utf8;
+use single::{Lent, machine as single_byte};
+use tables::own::Own;
+use tables::{Single, Tables};
 use utf8::Utf8;
 use visual::Visual;
 
-#[derive(Clone, Copy)]
+#[derive(Clone, Copy, PartialEq, Eq)]
 pub enum Machine {
     Utf8(Utf8),
     Iso2022Jp(Iso2022Jp),
@@ -33,128 +48,605 @@ pub enum Machine {
     ShiftJis(ShiftJis),
 }
 
-// The machine after a stretch of bytes or the end of the stream, and by how much its score changed; or why it dropped out, and
-// at which offset in the stretch; or its record, a lent length or the stretch was not fit to run.
-#[derive(Clone, Copy)]
-pub enum Ran {
-    Live(Machine, i64),
-    Dropped(Reason, usize),
-    Unfit,
+// A kind of machine, and the place that holds machines of it. A run goes to one machine's loop and to nothing else.
+pub trait Kind: Copy {
+    // The number of the place.
+    ghost PLACE: { ℕ };
+
+    // Whether the end of the stream is a space to it.
+    ghost TAKES_SPACE: { Bool };
+
+    ghost fresh: { Self };
+
+    // As one of the nine.
+    ghost whole: { Self → Whole };
+
+    const PLACE: usize;
+
+    const TAKES_SPACE: bool;
+
+    fn fresh() -> Self
+        ensures { result ≡ fresh };
+
+    fn whole(self) -> Machine
+        ensures { result ≡ whole self };
+
+    // The place's own of all tables.
+    fn own<'a>(tables: &Tables<'a>) -> Own<'a>
+        ensures { own_lists result ≡ own_of (lists tables.now) PLACE };
+
+    // The machine, if it is of this kind.
+    fn pick(machine: Machine) -> Option<Self>
+        ensures { Picked whole PLACE machine result };
+
+    // A stretch of bytes, over the place's own tables.
+    fn run_over(self, part: &[u8], own: &Own) -> Ran<Self>
+        ensures value { wrapped whole result ≡ ran_of (own_lists own.now) (whole self) part.now }
+        ensures bounded { BoundedBy (per_byte * length part.now) result }
+        ensures weighed { Weighed (whole self) own.now.weights.now result };
+
+    // The end of the stream.
+    fn close_over(self, own: &Own) -> Ran<Self>
+        ensures value { wrapped whole result ≡ closed_of (own_lists own.now) (whole self) }
+        ensures bounded { BoundedBy per_byte result };
+
+    ghost numbered: { (m : Self) → place_number (whole m) ≡ PLACE };
+
+    ghost placed: { PLACE < place_count };
+
+    ghost spaced: { (m : Self) → takes_space (whole m) ≡ TAKES_SPACE };
+
+    ghost begins: { (m : Self) → fresh_of (whole m) ≡ whole fresh };
 }
 
-// The record is made anew from its fields, so that the compiler does not put it together byte by byte.
-fn of_utf8(r: utf8::Ran) -> Ran
-    ensures { result ≡ of_utf8 r }
-{
-    match r {
-        utf8::Ran::Live(m) => {
-            let anew = Utf8 {
-                need: m.need,
-                lo: m.lo,
-                hi: m.hi,
-            };
-            Ran::Live(Machine::Utf8(anew), 0)
+#[tactic(auto, unfolding(crate::specs::Kinds::ran_of, crate::specs::Kinds::closed_of))]
+impl Kind for Utf8 {
+    ghost PLACE = { 0 };
+
+    ghost TAKES_SPACE = { false };
+
+    ghost fresh = { utf8.fresh };
+
+    ghost whole = { machine.Utf8 };
+
+    ghost numbered = { λ m. refl };
+
+    ghost placed = { placed 0 refl };
+
+    ghost spaced = { λ m. refl };
+
+    ghost begins = { λ m. fresh_utf8 m };
+
+    const PLACE: usize = 0;
+
+    const TAKES_SPACE: bool = false;
+
+    fn fresh() -> Utf8 {
+        Utf8::fresh()
+    }
+
+    // The record is made anew from its fields, so that the compiler does not put it together byte by byte.
+    fn whole(self) -> Machine {
+        Machine::Utf8(Utf8 {
+            need: self.need,
+            lo: self.lo,
+            hi: self.hi,
+        })
+    }
+
+    fn own<'a>(_tables: &Tables<'a>) -> Own<'a> {
+        own_index(&[], &[], &[])
+    }
+
+    fn pick(machine: Machine) -> Option<Utf8> {
+        match machine {
+            Machine::Utf8(m) => Some(m),
+            _ => None,
         }
-        utf8::Ran::Dropped(reason, at) => Ran::Dropped(reason, at),
-        utf8::Ran::Unfit => Ran::Unfit,
+    }
+
+    fn run_over(self, part: &[u8], _own: &Own) -> Ran<Utf8> {
+        unscored(self.run(part))
+    }
+
+    fn close_over(self, _own: &Own) -> Ran<Utf8> {
+        unscored(self.close())
     }
 }
 
-fn of_iso2022jp(r: iso2022jp::Ran) -> Ran
-    ensures { result ≡ of_iso2022_jp r }
+#[tactic(auto, unfolding(crate::specs::Kinds::ran_of, crate::specs::Kinds::closed_of))]
+impl Kind for Iso2022Jp {
+    ghost PLACE = { 1 };
+
+    ghost TAKES_SPACE = { false };
+
+    ghost fresh = { iso2022jp.fresh };
+
+    ghost whole = { machine.Iso2022Jp };
+
+    ghost numbered = { λ m. refl };
+
+    ghost placed = { placed 1 refl };
+
+    ghost spaced = { λ m. refl };
+
+    ghost begins = { λ m. fresh_iso2022jp m };
+
+    const PLACE: usize = 1;
+
+    const TAKES_SPACE: bool = false;
+
+    fn fresh() -> Iso2022Jp {
+        Iso2022Jp::fresh()
+    }
+
+    fn whole(self) -> Machine {
+        Machine::Iso2022Jp(self)
+    }
+
+    fn own<'a>(tables: &Tables<'a>) -> Own<'a> {
+        own_index(tables.jis, &[], &[])
+    }
+
+    fn pick(machine: Machine) -> Option<Iso2022Jp> {
+        match machine {
+            Machine::Iso2022Jp(m) => Some(m),
+            _ => None,
+        }
+    }
+
+    fn run_over(self, part: &[u8], own: &Own) -> Ran<Iso2022Jp> {
+        unscored(self.run(part, own.index))
+    }
+
+    fn close_over(self, _own: &Own) -> Ran<Iso2022Jp> {
+        unscored(self.close())
+    }
+}
+
+#[tactic(auto, unfolding(crate::specs::Kinds::ran_of, crate::specs::Kinds::closed_of))]
+impl Kind for EucKr {
+    ghost PLACE = { 2 };
+
+    ghost TAKES_SPACE = { false };
+
+    ghost fresh = { euckr.fresh };
+
+    ghost whole = { machine.EucKr };
+
+    ghost numbered = { λ m. refl };
+
+    ghost placed = { placed 2 refl };
+
+    ghost spaced = { λ m. refl };
+
+    ghost begins = { λ m. fresh_euckr m };
+
+    const PLACE: usize = 2;
+
+    const TAKES_SPACE: bool = false;
+
+    fn fresh() -> EucKr {
+        EucKr::fresh()
+    }
+
+    fn whole(self) -> Machine {
+        Machine::EucKr(self)
+    }
+
+    fn own<'a>(tables: &Tables<'a>) -> Own<'a> {
+        own_index(tables.euckr, tables.extras, tables.weights)
+    }
+
+    fn pick(machine: Machine) -> Option<EucKr> {
+        match machine {
+            Machine::EucKr(m) => Some(m),
+            _ => None,
+        }
+    }
+
+    fn run_over(self, part: &[u8], own: &Own) -> Ran<EucKr> {
+        self.run(part, own.index, own.extras, own.weights)
+    }
+
+    fn close_over(self, _own: &Own) -> Ran<EucKr> {
+        self.close()
+    }
+}
+
+#[tactic(auto, unfolding(crate::specs::Kinds::ran_of, crate::specs::Kinds::closed_of))]
+impl Kind for Big5 {
+    ghost PLACE = { 3 };
+
+    ghost TAKES_SPACE = { false };
+
+    ghost fresh = { big5.fresh };
+
+    ghost whole = { machine.Big5 };
+
+    ghost numbered = { λ m. refl };
+
+    ghost placed = { placed 3 refl };
+
+    ghost spaced = { λ m. refl };
+
+    ghost begins = { λ m. fresh_big5 m };
+
+    const PLACE: usize = 3;
+
+    const TAKES_SPACE: bool = false;
+
+    fn fresh() -> Big5 {
+        Big5::fresh()
+    }
+
+    fn whole(self) -> Machine {
+        Machine::Big5(self)
+    }
+
+    fn own<'a>(tables: &Tables<'a>) -> Own<'a> {
+        own_index(tables.big5, &[], tables.weights)
+    }
+
+    fn pick(machine: Machine) -> Option<Big5> {
+        match machine {
+            Machine::Big5(m) => Some(m),
+            _ => None,
+        }
+    }
+
+    fn run_over(self, part: &[u8], own: &Own) -> Ran<Big5> {
+        self.run(part, own.index, own.weights)
+    }
+
+    fn close_over(self, _own: &Own) -> Ran<Big5> {
+        self.close()
+    }
+}
+
+#[tactic(auto, unfolding(crate::specs::Kinds::ran_of, crate::specs::Kinds::closed_of))]
+impl Kind for Caseless {
+    ghost PLACE = { 4 };
+
+    ghost TAKES_SPACE = { true };
+
+    ghost fresh = { caseless.fresh };
+
+    ghost whole = { machine.Caseless };
+
+    ghost numbered = { λ m. refl };
+
+    ghost placed = { placed 4 refl };
+
+    ghost spaced = { λ m. refl };
+
+    ghost begins = { λ m. fresh_caseless m };
+
+    const PLACE: usize = 4;
+
+    const TAKES_SPACE: bool = true;
+
+    fn fresh() -> Caseless {
+        Caseless::fresh()
+    }
+
+    fn whole(self) -> Machine {
+        Machine::Caseless(self)
+    }
+
+    fn own<'a>(tables: &Tables<'a>) -> Own<'a> {
+        own_single(&tables.caseless, tables.weights)
+    }
+
+    fn pick(machine: Machine) -> Option<Caseless> {
+        match machine {
+            Machine::Caseless(m) => Some(m),
+            _ => None,
+        }
+    }
+
+    fn run_over(self, part: &[u8], own: &Own) -> Ran<Caseless> {
+        single_byte::run(self, part, &lent(own))
+    }
+
+    fn close_over(self, own: &Own) -> Ran<Caseless> {
+        single_byte::close(self, &lent(own))
+    }
+}
+
+#[tactic(auto, unfolding(crate::specs::Kinds::ran_of, crate::specs::Kinds::closed_of))]
+impl Kind for Logical {
+    ghost PLACE = { 5 };
+
+    ghost TAKES_SPACE = { true };
+
+    ghost fresh = { logical.fresh };
+
+    ghost whole = { machine.Logical };
+
+    ghost numbered = { λ m. refl };
+
+    ghost placed = { placed 5 refl };
+
+    ghost spaced = { λ m. refl };
+
+    ghost begins = { λ m. fresh_logical m };
+
+    const PLACE: usize = 5;
+
+    const TAKES_SPACE: bool = true;
+
+    fn fresh() -> Logical {
+        Logical::fresh()
+    }
+
+    fn whole(self) -> Machine {
+        Machine::Logical(self)
+    }
+
+    fn own<'a>(tables: &Tables<'a>) -> Own<'a> {
+        own_single(&tables.logical, tables.weights)
+    }
+
+    fn pick(machine: Machine) -> Option<Logical> {
+        match machine {
+            Machine::Logical(m) => Some(m),
+            _ => None,
+        }
+    }
+
+    // A function of its own: within the feed of its place, where more values live through it, the loop takes more instructions a byte.
+    #[inline(never)]
+    fn run_over(self, part: &[u8], own: &Own) -> Ran<Logical> {
+        single_byte::run(self, part, &lent(own))
+    }
+
+    fn close_over(self, own: &Own) -> Ran<Logical> {
+        single_byte::close(self, &lent(own))
+    }
+}
+
+#[tactic(auto, unfolding(crate::specs::Kinds::ran_of, crate::specs::Kinds::closed_of))]
+impl Kind for Visual {
+    ghost PLACE = { 6 };
+
+    ghost TAKES_SPACE = { true };
+
+    ghost fresh = { visual.fresh };
+
+    ghost whole = { machine.Visual };
+
+    ghost numbered = { λ m. refl };
+
+    ghost placed = { placed 6 refl };
+
+    ghost spaced = { λ m. refl };
+
+    ghost begins = { λ m. fresh_visual m };
+
+    const PLACE: usize = 6;
+
+    const TAKES_SPACE: bool = true;
+
+    fn fresh() -> Visual {
+        Visual::fresh()
+    }
+
+    fn whole(self) -> Machine {
+        Machine::Visual(self)
+    }
+
+    fn own<'a>(tables: &Tables<'a>) -> Own<'a> {
+        own_single(&tables.visual, tables.weights)
+    }
+
+    fn pick(machine: Machine) -> Option<Visual> {
+        match machine {
+            Machine::Visual(m) => Some(m),
+            _ => None,
+        }
+    }
+
+    fn run_over(self, part: &[u8], own: &Own) -> Ran<Visual> {
+        single_byte::run(self, part, &lent(own))
+    }
+
+    fn close_over(self, own: &Own) -> Ran<Visual> {
+        single_byte::close(self, &lent(own))
+    }
+}
+
+#[tactic(auto, unfolding(crate::specs::Kinds::ran_of, crate::specs::Kinds::closed_of))]
+impl Kind for ArabicFrench {
+    ghost PLACE = { 7 };
+
+    ghost TAKES_SPACE = { true };
+
+    ghost fresh = { arabic_french.fresh };
+
+    ghost whole = { machine.ArabicFrench };
+
+    ghost numbered = { λ m. refl };
+
+    ghost placed = { placed 7 refl };
+
+    ghost spaced = { λ m. refl };
+
+    ghost begins = { λ m. fresh_arabic_french m };
+
+    const PLACE: usize = 7;
+
+    const TAKES_SPACE: bool = true;
+
+    fn fresh() -> ArabicFrench {
+        ArabicFrench::fresh()
+    }
+
+    fn whole(self) -> Machine {
+        Machine::ArabicFrench(self)
+    }
+
+    fn own<'a>(tables: &Tables<'a>) -> Own<'a> {
+        own_single(&tables.arabic_french, tables.weights)
+    }
+
+    fn pick(machine: Machine) -> Option<ArabicFrench> {
+        match machine {
+            Machine::ArabicFrench(m) => Some(m),
+            _ => None,
+        }
+    }
+
+    // A function of its own: within the feed of its place, where more values live through it, the loop takes more instructions a byte.
+    #[inline(never)]
+    fn run_over(self, part: &[u8], own: &Own) -> Ran<ArabicFrench> {
+        single_byte::run(self, part, &lent(own))
+    }
+
+    fn close_over(self, own: &Own) -> Ran<ArabicFrench> {
+        single_byte::close(self, &lent(own))
+    }
+}
+
+#[tactic(auto, unfolding(crate::specs::Kinds::ran_of, crate::specs::Kinds::closed_of))]
+impl Kind for ShiftJis {
+    ghost PLACE = { 8 };
+
+    ghost TAKES_SPACE = { false };
+
+    ghost fresh = { shift_jis.fresh };
+
+    ghost whole = { machine.ShiftJis };
+
+    ghost numbered = { λ m. refl };
+
+    ghost placed = { placed 8 refl };
+
+    ghost spaced = { λ m. refl };
+
+    ghost begins = { λ m. fresh_shift_jis m };
+
+    const PLACE: usize = 8;
+
+    const TAKES_SPACE: bool = false;
+
+    fn fresh() -> ShiftJis {
+        ShiftJis::fresh()
+    }
+
+    fn whole(self) -> Machine {
+        Machine::ShiftJis(self)
+    }
+
+    fn own<'a>(tables: &Tables<'a>) -> Own<'a> {
+        own_index(tables.jis, &[], &[])
+    }
+
+    fn pick(machine: Machine) -> Option<ShiftJis> {
+        match machine {
+            Machine::ShiftJis(m) => Some(m),
+            _ => None,
+        }
+    }
+
+    fn run_over(self, part: &[u8], own: &Own) -> Ran<ShiftJis> {
+        unscored(self.run(part, own.index))
+    }
+
+    fn close_over(self, _own: &Own) -> Ran<ShiftJis> {
+        unscored(self.close())
+    }
+}
+
+// A decoder's own tables.
+fn own_index<'a>(index: &'a [u32], extras: &'a [i16], weights: &'a [i32]) -> Own<'a>
+    ensures { own_lists result ≡ own [] [] [] index.now extras.now weights.now }
 {
-    match r {
-        iso2022jp::Ran::Live(m) => Ran::Live(Machine::Iso2022Jp(m), 0),
-        iso2022jp::Ran::Dropped(reason, at) => Ran::Dropped(reason, at),
-        iso2022jp::Ran::Unfit => Ran::Unfit,
+    Own {
+        classes: &[],
+        marks: &[],
+        pairs: &[],
+        index,
+        extras,
+        weights,
     }
 }
 
-fn of_euckr(r: euckr::Ran) -> Ran
-    ensures { result ≡ of_euc_kr r }
+// A single-byte place's own tables.
+fn own_single<'a>(single: &Single<'a>, weights: &'a [i32]) -> Own<'a>
+    ensures { own_lists result ≡ of_single (single_lists single.now) weights.now }
 {
-    match r {
-        euckr::Ran::Live(m, change) => Ran::Live(Machine::EucKr(m), change),
-        euckr::Ran::Dropped(reason, at) => Ran::Dropped(reason, at),
-        euckr::Ran::Unfit => Ran::Unfit,
+    Own {
+        classes: single.classes,
+        marks: single.marks,
+        pairs: single.pairs,
+        index: &[],
+        extras: &[],
+        weights,
     }
 }
 
-fn of_big5(r: big5::Ran) -> Ran
-    ensures { result ≡ of_big5 r }
+// What a single-byte machine is lent of its place's own tables.
+fn lent<'a>(own: &Own<'a>) -> Lent<'a>
+    ensures { single.lists result ≡ lent_to (own_lists own.now) }
 {
-    match r {
-        big5::Ran::Live(m, change) => Ran::Live(Machine::Big5(m), change),
-        big5::Ran::Dropped(reason, at) => Ran::Dropped(reason, at),
-        big5::Ran::Unfit => Ran::Unfit,
+    Lent {
+        classes: own.classes,
+        marks: own.marks,
+        pairs: own.pairs,
+        weights: own.weights,
     }
 }
 
-fn of_caseless(r: caseless_script::Ran) -> Ran
-    ensures { result ≡ of_caseless r }
+// The answer of a machine whose score never changes.
+fn unscored<M: Copy>(reached: Result<M, Stop>) -> Ran<M>
+    ensures { result ≡ unchanged reached }
 {
-    match r {
-        caseless_script::Ran::Live(m, change) => Ran::Live(Machine::Caseless(m), change),
-        caseless_script::Ran::Dropped(reason, at) => Ran::Dropped(reason, at),
-        caseless_script::Ran::Unfit => Ran::Unfit,
+    match reached {
+        Ok(m) => Ok((m, 0)),
+        Err(stop) => Err(stop),
     }
 }
 
-fn of_logical(r: logical::Ran) -> Ran
-    ensures { result ≡ of_logical r }
+// A kind's own answer, as one of the nine.
+fn as_whole<K: Kind>(ran: Ran<K>) -> Ran<Machine>
+    ensures { result ≡ wrapped K.whole ran }
 {
-    match r {
-        logical::Ran::Live(m, change) => Ran::Live(Machine::Logical(m), change),
-        logical::Ran::Dropped(reason, at) => Ran::Dropped(reason, at),
-        logical::Ran::Unfit => Ran::Unfit,
+    match ran {
+        Ok((m, gain)) => Ok((m.whole(), gain)),
+        Err(stop) => Err(stop),
     }
 }
 
-fn of_visual(r: visual::Ran) -> Ran
-    ensures { result ≡ of_visual r }
+// A machine of the kind alone; one of another kind is not fit.
+pub fn run<K: Kind>(machine: Machine, part: &[u8], own: &Own) -> Ran<Machine>
+    ensures value { result ≡ ran_at K.PLACE (own_lists own.now) machine part.now }
+    ensures bounded { Bounded (per_byte * length part.now) result }
+    ensures weighed { Weighed machine own.now.weights.now result }
 {
-    match r {
-        visual::Ran::Live(m, change) => Ran::Live(Machine::Visual(m), change),
-        visual::Ran::Dropped(reason, at) => Ran::Dropped(reason, at),
-        visual::Ran::Unfit => Ran::Unfit,
-    }
+    let Some(m) = K::pick(machine) else {
+        return Err(Stop::Unfit);
+    };
+    as_whole(m.run_over(part, own))
 }
 
-fn of_arabic_french(r: arabic_french::Ran) -> Ran
-    ensures { result ≡ of_arabic_french r }
-{
-    match r {
-        arabic_french::Ran::Live(m, change) => Ran::Live(Machine::ArabicFrench(m), change),
-        arabic_french::Ran::Dropped(reason, at) => Ran::Dropped(reason, at),
-        arabic_french::Ran::Unfit => Ran::Unfit,
-    }
-}
-
-fn of_shift_jis(r: shift_jis::Ran) -> Ran
-    ensures { result ≡ of_shift_jis r }
-{
-    match r {
-        shift_jis::Ran::Live(m) => Ran::Live(Machine::ShiftJis(m), 0),
-        shift_jis::Ran::Dropped(reason, at) => Ran::Dropped(reason, at),
-        shift_jis::Ran::Unfit => Ran::Unfit,
-    }
-}
-
+#[tactic(auto, unfolding(crate::specs::Kinds::fresh_of, crate::specs::Kinds::ran_of, crate::specs::Kinds::closed_of))]
 impl Machine {
-    // The number of the place that holds machines of this kind.
+    // The number of the place that holds machines of this kind. Here and below each case calls what is its own: a table of functions
+    // would have to give them one signature.
     pub fn place_number(self) -> usize
         ensures { result ≡ place_number self }
     {
         match self {
-            Machine::Utf8(_) => 0,
-            Machine::Iso2022Jp(_) => 1,
-            Machine::EucKr(_) => 2,
-            Machine::Big5(_) => 3,
-            Machine::Caseless(_) => 4,
-            Machine::Logical(_) => 5,
-            Machine::Visual(_) => 6,
-            Machine::ArabicFrench(_) => 7,
-            Machine::ShiftJis(_) => 8,
+            Machine::Utf8(_) => Utf8::PLACE,
+            Machine::Iso2022Jp(_) => Iso2022Jp::PLACE,
+            Machine::EucKr(_) => EucKr::PLACE,
+            Machine::Big5(_) => Big5::PLACE,
+            Machine::Caseless(_) => Caseless::PLACE,
+            Machine::Logical(_) => Logical::PLACE,
+            Machine::Visual(_) => Visual::PLACE,
+            Machine::ArabicFrench(_) => ArabicFrench::PLACE,
+            Machine::ShiftJis(_) => ShiftJis::PLACE,
         }
     }
 
@@ -163,194 +655,68 @@ impl Machine {
         ensures { result ≡ fresh_of self }
     {
         match self {
-            Machine::Utf8(_) => Machine::Utf8(Utf8::fresh()),
-            Machine::Iso2022Jp(_) => Machine::Iso2022Jp(Iso2022Jp::fresh()),
-            Machine::EucKr(_) => Machine::EucKr(EucKr::fresh()),
-            Machine::Big5(_) => Machine::Big5(Big5::fresh()),
-            Machine::Caseless(_) => Machine::Caseless(Caseless::fresh()),
-            Machine::Logical(_) => Machine::Logical(Logical::fresh()),
-            Machine::Visual(_) => Machine::Visual(Visual::fresh()),
-            Machine::ArabicFrench(_) => Machine::ArabicFrench(ArabicFrench::fresh()),
-            Machine::ShiftJis(_) => Machine::ShiftJis(ShiftJis::fresh()),
+            Machine::Utf8(_) => Utf8::fresh().whole(),
+            Machine::Iso2022Jp(_) => Iso2022Jp::fresh().whole(),
+            Machine::EucKr(_) => EucKr::fresh().whole(),
+            Machine::Big5(_) => Big5::fresh().whole(),
+            Machine::Caseless(_) => Caseless::fresh().whole(),
+            Machine::Logical(_) => Logical::fresh().whole(),
+            Machine::Visual(_) => Visual::fresh().whole(),
+            Machine::ArabicFrench(_) => ArabicFrench::fresh().whole(),
+            Machine::ShiftJis(_) => ShiftJis::fresh().whole(),
+        }
+    }
+
+    // A stretch of bytes, of a machine of whichever kind.
+    pub fn run(self, part: &[u8], own: &Own) -> Ran<Machine>
+        ensures value { result ≡ ran_of (own_lists own.now) self part.now }
+        ensures bounded { Bounded (per_byte * length part.now) result }
+    {
+        match self {
+            Machine::Utf8(m) => as_whole(m.run_over(part, own)),
+            Machine::Iso2022Jp(m) => as_whole(m.run_over(part, own)),
+            Machine::EucKr(m) => as_whole(m.run_over(part, own)),
+            Machine::Big5(m) => as_whole(m.run_over(part, own)),
+            Machine::Caseless(m) => as_whole(m.run_over(part, own)),
+            Machine::Logical(m) => as_whole(m.run_over(part, own)),
+            Machine::Visual(m) => as_whole(m.run_over(part, own)),
+            Machine::ArabicFrench(m) => as_whole(m.run_over(part, own)),
+            Machine::ShiftJis(m) => as_whole(m.run_over(part, own)),
         }
     }
 
     // The end of the stream.
-    pub fn close(
-        self,
-        classes: &[u8],
-        marks: &[u8],
-        pairs: &[i16],
-        index: &[u32],
-        extras: &[i16],
-        weights: &[i32],
-    ) -> Ran
-        ensures value { result ≡ closed_of (own classes.now marks.now pairs.now index.now extras.now weights.now) self }
+    pub fn close(self, own: &Own) -> Ran<Machine>
+        ensures value { result ≡ closed_of (own_lists own.now) self }
         ensures bounded { Bounded per_byte result }
     {
         match self {
-            Machine::Utf8(m) => of_utf8(m.close()),
-            Machine::Iso2022Jp(m) => of_iso2022jp(m.close()),
-            Machine::EucKr(m) => of_euckr(m.close()),
-            Machine::Big5(m) => of_big5(m.close()),
-            Machine::Caseless(m) => of_caseless(m.close(classes, marks, pairs, weights)),
-            Machine::Logical(m) => of_logical(m.close(classes, marks, pairs, weights)),
-            Machine::Visual(m) => of_visual(m.close(classes, marks, pairs, weights)),
-            Machine::ArabicFrench(m) => of_arabic_french(m.close(classes, marks, pairs, weights)),
-            Machine::ShiftJis(m) => of_shift_jis(m.close()),
+            Machine::Utf8(m) => as_whole(m.close_over(own)),
+            Machine::Iso2022Jp(m) => as_whole(m.close_over(own)),
+            Machine::EucKr(m) => as_whole(m.close_over(own)),
+            Machine::Big5(m) => as_whole(m.close_over(own)),
+            Machine::Caseless(m) => as_whole(m.close_over(own)),
+            Machine::Logical(m) => as_whole(m.close_over(own)),
+            Machine::Visual(m) => as_whole(m.close_over(own)),
+            Machine::ArabicFrench(m) => as_whole(m.close_over(own)),
+            Machine::ShiftJis(m) => as_whole(m.close_over(own)),
         }
     }
 
-    // The UTF-8 machine alone; one of another kind is not fit.
-    pub fn run_utf8(self, part: &[u8]) -> Ran
-        ensures value { result ≡ ran_at 0 (own [] [] [] [] [] []) self part.now }
-        ensures bounded { Bounded (per_byte * length part.now) result }
-        ensures weighed { Weighed self [] result }
-    {
-        let Machine::Utf8(m) = self else {
-            return Ran::Unfit;
-        };
-        of_utf8(m.run(part))
-    }
-
-    // The ISO-2022-JP machine alone; one of another kind is not fit.
-    pub fn run_iso2022jp(self, part: &[u8], index: &[u32]) -> Ran
-        ensures value { result ≡ ran_at 1 (own [] [] [] index.now [] []) self part.now }
-        ensures bounded { Bounded (per_byte * length part.now) result }
-        ensures weighed { Weighed self [] result }
-    {
-        let Machine::Iso2022Jp(m) = self else {
-            return Ran::Unfit;
-        };
-        of_iso2022jp(m.run(part, index))
-    }
-
-    // The EUC-KR machine alone; one of another kind is not fit.
-    pub fn run_euckr(self, part: &[u8], index: &[u32], extras: &[i16], weights: &[i32]) -> Ran
-        ensures value { result ≡ ran_at 2 (own [] [] [] index.now extras.now weights.now) self part.now }
-        ensures bounded { Bounded (per_byte * length part.now) result }
-        ensures weighed { Weighed self weights.now result }
-    {
-        let Machine::EucKr(m) = self else {
-            return Ran::Unfit;
-        };
-        of_euckr(m.run(part, index, extras, weights))
-    }
-
-    // The Big5 machine alone; one of another kind is not fit.
-    pub fn run_big5(self, part: &[u8], index: &[u32], weights: &[i32]) -> Ran
-        ensures value { result ≡ ran_at 3 (own [] [] [] index.now [] weights.now) self part.now }
-        ensures bounded { Bounded (per_byte * length part.now) result }
-        ensures weighed { Weighed self weights.now result }
-    {
-        let Machine::Big5(m) = self else {
-            return Ran::Unfit;
-        };
-        of_big5(m.run(part, index, weights))
-    }
-
-    // The caseless machine alone; one of another kind is not fit.
-    pub fn run_caseless(
-        self,
-        part: &[u8],
-        classes: &[u8],
-        marks: &[u8],
-        pairs: &[i16],
-        weights: &[i32],
-    ) -> Ran
-        ensures value { result ≡ ran_at 4 (own classes.now marks.now pairs.now [] [] weights.now) self part.now }
-        ensures bounded { Bounded (per_byte * length part.now) result }
-        ensures weighed { Weighed self weights.now result }
-    {
-        let Machine::Caseless(m) = self else {
-            return Ran::Unfit;
-        };
-        of_caseless(m.run(part, classes, marks, pairs, weights))
-    }
-
-    // The logical machine alone; one of another kind is not fit.
-    pub fn run_logical(
-        self,
-        part: &[u8],
-        classes: &[u8],
-        marks: &[u8],
-        pairs: &[i16],
-        weights: &[i32],
-    ) -> Ran
-        ensures value { result ≡ ran_at 5 (own classes.now marks.now pairs.now [] [] weights.now) self part.now }
-        ensures bounded { Bounded (per_byte * length part.now) result }
-        ensures weighed { Weighed self weights.now result }
-    {
-        let Machine::Logical(m) = self else {
-            return Ran::Unfit;
-        };
-        of_logical(m.run(part, classes, marks, pairs, weights))
-    }
-
-    // The visual machine alone; one of another kind is not fit.
-    pub fn run_visual(
-        self,
-        part: &[u8],
-        classes: &[u8],
-        marks: &[u8],
-        pairs: &[i16],
-        weights: &[i32],
-    ) -> Ran
-        ensures value { result ≡ ran_at 6 (own classes.now marks.now pairs.now [] [] weights.now) self part.now }
-        ensures bounded { Bounded (per_byte * length part.now) result }
-        ensures weighed { Weighed self weights.now result }
-    {
-        let Machine::Visual(m) = self else {
-            return Ran::Unfit;
-        };
-        of_visual(m.run(part, classes, marks, pairs, weights))
-    }
-
-    // The Arabic-French machine alone; one of another kind is not fit.
-    pub fn run_arabic_french(
-        self,
-        part: &[u8],
-        classes: &[u8],
-        marks: &[u8],
-        pairs: &[i16],
-        weights: &[i32],
-    ) -> Ran
-        ensures value { result ≡ ran_at 7 (own classes.now marks.now pairs.now [] [] weights.now) self part.now }
-        ensures bounded { Bounded (per_byte * length part.now) result }
-        ensures weighed { Weighed self weights.now result }
-    {
-        let Machine::ArabicFrench(m) = self else {
-            return Ran::Unfit;
-        };
-        of_arabic_french(m.run(part, classes, marks, pairs, weights))
-    }
-
-    // The Shift_JIS machine alone; one of another kind is not fit.
-    pub fn run_shift_jis(self, part: &[u8], index: &[u32]) -> Ran
-        ensures value { result ≡ ran_at 8 (own [] [] [] index.now [] []) self part.now }
-        ensures bounded { Bounded (per_byte * length part.now) result }
-        ensures weighed { Weighed self [] result }
-    {
-        let Machine::ShiftJis(m) = self else {
-            return Ran::Unfit;
-        };
-        of_shift_jis(m.run(part, index))
-    }
-
     // The end of the stream of a decoder's machine; to the others it is a space, and this is no answer.
-    pub fn close_decoder(self) -> Ran
+    pub fn close_decoder(self) -> Ran<Machine>
         ensures { result ≡ decoded_end self }
     {
         match self {
-            Machine::Utf8(m) => of_utf8(m.close()),
-            Machine::Iso2022Jp(m) => of_iso2022jp(m.close()),
-            Machine::EucKr(m) => of_euckr(m.close()),
-            Machine::Big5(m) => of_big5(m.close()),
-            Machine::Caseless(_) => Ran::Unfit,
-            Machine::Logical(_) => Ran::Unfit,
-            Machine::Visual(_) => Ran::Unfit,
-            Machine::ArabicFrench(_) => Ran::Unfit,
-            Machine::ShiftJis(m) => of_shift_jis(m.close()),
+            Machine::Utf8(m) => as_whole(unscored(m.close())),
+            Machine::Iso2022Jp(m) => as_whole(unscored(m.close())),
+            Machine::EucKr(m) => as_whole(m.close()),
+            Machine::Big5(m) => as_whole(m.close()),
+            Machine::ShiftJis(m) => as_whole(unscored(m.close())),
+            Machine::Caseless(_)
+            | Machine::Logical(_)
+            | Machine::Visual(_)
+            | Machine::ArabicFrench(_) => Err(Stop::Unfit),
         }
     }
 }

@@ -1,5 +1,5 @@
 -- A buffer of 512 bytes has room for every sheet and every answer: no number has more than 20 digits, no name more than 13 bytes.
-use Rattle.std.specs.Prelude.{◌≡◌, Bool, true, ℕ, suc, ◌*◌, ltb, length, drop}
+use Rattle.std.specs.Prelude.{◌≡◌, Bool, true, ℕ, suc, ◌*◌, ltb, length, drop, Ok, Err}
 use Rattle.std.proofs.Math.Path.{refl}
 use Rattle.std.proofs.Common.{◌∙◌, arith}
 use Rattle.std.proofs.Math.Bool.{false}
@@ -13,26 +13,24 @@ use Rattle.tables.specs.Own.{place_count}
 use Rattle.places.specs.Slate.{feed_from, feed_all}
 use Rattle.places.specs.Slate.{start_of as startPlaces}
 use Rattle.places.specs.declared.place.Place.{Place}
-use Rattle.places.specs.declared.place.Score as score
+use Rattle.places.specs.Score.{Score}
 use Rattle.state.specs.Leader.{leader_of}
 use Rattle.state.specs.State.{start_of}
 use Rattle.state.specs.declared.State.{State}
-use Rattle.detector.specs.Feed.{refusal_of, places_by, advance_of, feed_by}
+use Rattle.detector.specs.Feed.{Verdict, refusal_of, places_by, advance_of, feed_by}
 use Rattle.detector.specs.Front.{Reaches, none, some, reaches_of, front_of}
-use Rattle.detector.specs.declared.feed.Verdict.{Verdict}
-use Rattle.detector.specs.declared.feed.Verdict.TheVariants.{Accept, Refuse}
 use Rattle.demo.specs.Demo.{demonstration}
 use Rattle.sheet.specs.Sheet.{score_text, place_line, place_lines, sheet_of}
 use Rattle.sheet.specs.SheetLaws.{leader_short}
 use Rattle.label.specs.Label.{most, state_of, answer_of}
 
 -- ---- a sheet
-scored : (s : score.Score) → Fits 21 (score_text s)
+scored : (s : Score) → Fits 21 (score_text s)
 unfolding score_text
-scored (score.TheVariants.None d at) = wide (text "none") refl
-scored (score.TheVariants.Live n) = signed n
+scored (Err why) = wide (text "none") refl
+scored (Ok n) = signed n
 
-place : (k : ℕ) (s : score.Score) → Fits 36 (place_line k s)
+place : (k : ℕ) (s : Score) → Fits 36 (place_line k s)
 unfolding place_line
 place k s = joined (joined (joined (place_name_lem k) (text " ")) (scored s)) line_end
 
@@ -67,8 +65,8 @@ module _ (t : Tables) where
 
   fed_length : (s : State) (bs : List ℕ) (last : Bool) (v : Verdict) → length (feed_by t s bs last v).state.places ≡ length s.places
   unfolding feed_by advance_of
-  fed_length s bs last Accept = places_length last (front_of s.front bs last).body s.places (reaches_of s.front bs)
-  fed_length s bs last (Refuse r) = refl
+  fed_length s bs last (Ok u) = places_length last (front_of s.front bs last).body s.places (reaches_of s.front bs)
+  fed_length s bs last (Err r) = refl
 
 pub all_places : (bs : List ℕ) → length (state_of bs).places ≡ place_count
 unfolding state_of startPlaces

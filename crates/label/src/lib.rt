@@ -4,17 +4,19 @@
 ghost use Rattle.std.specs.Prelude.{true, ◌≡◌};
 ghost use Rattle.detector.specs.Feed.{feed_of};
 ghost use Rattle.label.specs.Label.{state_of, answer_of};
-ghost use Rattle.scribe.specs.Page.{page, onto};
+ghost use Rattle.scribe.specs.Page.{onto};
 ghost use Rattle.state.specs.State.{start_of};
-ghost use Rattle.tables.specs.Tables.{tables};
+ghost use Rattle.tables.specs.Lists.{lists};
 
 use demo;
 use detector::feed;
-use lengths::{BIG5, CLASSES, EUC_KR, EXTRAS, JIS, MARKS, PAIRS, WEIGHTS};
-use scribe::{STDOUT_FILENO, page};
+use scribe::STDOUT_FILENO;
+use scribe::page::Page;
 use sheet;
 use state;
 use state::State;
+use std::convert::AsSlice;
+use tables::{Single, Tables};
 
 // A label's bytes at most.
 pub const MOST: usize = 65_536;
@@ -25,76 +27,59 @@ pub const READ: usize = MOST + 1;
 // Every place takes part.
 const ALL: u16 = 0x1FF;
 
-// All places in, the label as one closing chunk; the four single-byte places have the same tables.
-fn over(
-    label: &[u8],
-    classes: &[u8; CLASSES],
-    marks: &[u8; MARKS],
-    pairs: &[i16; PAIRS],
-    big5: &[u32; BIG5],
-    euckr: &[u32; EUC_KR],
-    jis: &[u32; JIS],
-    extras: &[i16; EXTRAS],
-    weights: &[i32; WEIGHTS],
-) -> State
-    ensures { result ≡ (feed_of (tables classes.now marks.now pairs.now classes.now marks.now pairs.now classes.now marks.now pairs.now classes.now marks.now pairs.now big5.now euckr.now jis.now extras.now weights.now) (start_of 511) label.now true).state }
+// All places in, the label as one closing chunk.
+fn over(label: &[u8], tables: &Tables) -> State
+    ensures { result ≡ (feed_of (lists tables.now) (start_of 511) label.now true).state }
 {
     let begun = state::start(ALL);
-    let fed = feed::feed(
-        begun.state,
-        label,
-        true,
-        classes,
-        marks,
-        pairs,
-        classes,
-        marks,
-        pairs,
-        classes,
-        marks,
-        pairs,
-        classes,
-        marks,
-        pairs,
-        big5,
-        euckr,
-        jis,
-        extras,
-        weights,
-    );
+    let fed = feed::feed(begun.state, label, true, tables);
     let after = fed.state;
     after
 }
 
-// What it leaves, over the demonstration data.
+// What it leaves, over the demonstration data: the four single-byte places have the same tables.
 pub fn fed(label: &[u8]) -> State
     ensures { result ≡ state_of label.now }
 {
-    let classes = demo::classes();
-    let marks = demo::marks();
-    let pairs = demo::pairs();
-    let big5 = demo::big5();
-    let euckr = demo::euckr();
-    let jis = demo::jis();
-    let extras = demo::extras();
-    let weights = demo::weights();
+    let big5: demo::Big5 = demo::unmapped();
+    let euckr: demo::EucKr = demo::unmapped();
+    let jis: demo::Jis = demo::unmapped();
+    let single = Single {
+        classes: &demo::classes(),
+        marks: &demo::marks(),
+        pairs: &demo::pairs(),
+    };
     over(
-        label, &classes, &marks, &pairs, &big5, &euckr, &jis, &extras, &weights,
+        label,
+        &Tables {
+            caseless: single,
+            logical: single,
+            visual: single,
+            arabic_french: single,
+            big5: &big5,
+            euckr: &euckr,
+            jis: &jis,
+            extras: &demo::extras(),
+            weights: &demo::weights(),
+        },
     )
 }
 
-pub fn answer(label: &[u8], out: &mut [u8], at: usize) -> usize
-    ensures { page out.new result ≡ onto (page out.old at) (answer_of label.now) }
+pub fn answer(label: &[u8], out: &mut Page)
+    ensures { out.new ≡ onto out.old (answer_of label.now) }
 {
     if MOST < label.len() {
-        return page::word(out, at, b"too long\n");
+        out.word(b"too long\n");
+    } else {
+        sheet::write(out, fed(label));
     }
-    sheet::write(out, at, fed(label))
 }
 
 // The same on standard output.
+// Printed by `io::write_all`: `println!` gives each call a `Result` to be thrown away.
 pub fn print_answer(label: &[u8]) {
-    let mut out = [0u8; sheet::ROOM];
-    let end = answer(label, &mut out, 0);
-    io::write_all(STDOUT_FILENO, &out[..end]);
+    let mut text = [0u8; sheet::ROOM];
+    let mut out = Page::new(&mut text, 0);
+    answer(label, &mut out);
+    io::write_all(STDOUT_FILENO, out.as_slice());
 }

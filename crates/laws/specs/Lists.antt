@@ -1,14 +1,17 @@
 -- Lists, and parts of them: whether some element passes a test, how many do, the last few, what stands from a place on.
 use Rattle.std.specs.Prelude.{◌≡◌, Bool, cond, ◌||◌, eqb, get_or, take}
+use Rattle.std.specs.List.{fold, list_any, sum_by, count_by}
+use Rattle.std.specs.Simd.{first_chunks}
 use Rattle.std.proofs.Math.Path.{refl, sym, ap}
 use Rattle.std.proofs.Common.{◌∙◌, not-suc-le-zero, add-one, take-append-drop, drop-cons, take_all, drop-drop}
-use Rattle.std.proofs.Math.Bool.{true, false, or_assoc}
+use Rattle.std.proofs.Math.Bool.{true, false, or_assoc, or-false}
 use mathlib.Core.List.{List, [], ◌∷◌, ◌++◌}
-use Prim.Native.Nat.{ℕ, zero, suc, ◌+◌, ◌-◌, ◌<◌, ◌≤◌}
+use Prim.Native.Nat.{ℕ, zero, suc, ◌+◌, ◌-◌, ◌*◌, ◌<◌, ◌≤◌}
 use native.Mathlib.Omega.{arith}
 use Rattle.std.proofs.Math.ListN.{length, drop, length-append, length-drop}
 use Rattle.laws.specs.Tests.{neither}
 use Rattle.std.proofs.lemmas.List.{drop-append-le}
+use Rattle.std.proofs.lemmas.List.Sums.{sum_by-cons}
 use Rattle.std.proofs.Math.Seq.{drop-append-add}
 
 module _ {A : Type 0} where
@@ -78,6 +81,18 @@ module _ {A : Type 0} where
       or_more true u v w e = refl
       or_more false u v w e = e
 
+  -- what std's `any` answers
+  pub list_any_is : (p : A → Bool) (xs : List A) → list_any p xs ≡ any p xs
+  unfolding any
+  list_any_is p [] = refl
+  list_any_is p (x ∷ xs) = ap (λ (b : Bool). p x || b) (list_any_is p xs)
+
+  -- what a fold that asks every element answers
+  pub fold_or_is : (p : A → Bool) (t : Bool) (xs : List A) → fold (λ t x. t || p x) t xs ≡ (t || any p xs)
+  unfolding any
+  fold_or_is p t [] = sym (or-false t)
+  fold_or_is p t (x ∷ xs) = fold_or_is p (t || p x) xs ∙ or_assoc t (p x) (any p xs)
+
   pub any_drop : (p : A → Bool) (n : ℕ) (xs : List A) → any p xs ≡ false → any p (drop n xs) ≡ false
   unfolding any
   any_drop p zero xs e = e
@@ -100,6 +115,21 @@ module _ {A : Type 0} where
   unfolding count
   count_append p [] ys = omega arith
   count_append p (x ∷ xs) ys = omega (arith, count_append p xs ys)
+
+  -- what std's `count_by` counts
+  pub count_by_is : (p : A → Bool) (xs : List A) → count_by p xs ≡ count p xs
+  unfolding count
+  count_by_is p [] = refl
+  count_by_is p (x ∷ xs) = sum_by-cons (λ x. cond (p x) 1 0) x xs ∙ ap (λ (n : ℕ). cond (p x) 1 0 + n) (count_by_is p xs)
+
+  -- a list counted by blocks of n, and what is left
+  pub count_blocks : (p : A → Bool) (n k : ℕ) (xs : List A) → sum_by (count p) (first_chunks n k xs) + count p (drop (k * n) xs) ≡ count p xs
+  count_blocks p n zero xs = let e : 0 * n ≡ 0 = omega arith in rw e (omega arith)
+  count_blocks p n (suc k) xs =
+      let e : n + k * n ≡ suc k * n = omega arith in
+      let rest : drop (k * n) (drop n xs) ≡ drop (suc k * n) xs = drop-drop (k * n) n xs ∙ ap (λ (m : ℕ). drop m xs) e in
+      let parts : count p (take n xs) + count p (drop n xs) ≡ count p xs = sym (count_append p (take n xs) (drop n xs)) ∙ ap (count p) (take-append-drop n xs) in
+      omega (arith, sum_by-cons (count p) (take n xs) (first_chunks n k (drop n xs)), count_blocks p n k (drop n xs), ap (count p) rest, parts)
 
   -- ---- the last k
   pub last_short : (k : ℕ) (xs : List A) → length xs ≤ k → last k xs ≡ xs

@@ -1,8 +1,6 @@
 -- A machine's record as text: the fields of its line after the score.
-use Rattle.std.specs.Prelude.{Bool, List, ◌++◌, ℕ}
+use Rattle.std.specs.Prelude.{Bool, List, ◌++◌, ℕ, None, Some, Option, ℤ}
 use Rattle.scribe.specs.Text.{ascii, flag_of, hex_of, decimal_of, signed_of}
-use Rattle.pairs.specs.declared.Held.{Held}
-use Rattle.pairs.specs.declared.Held.TheVariants.{Nothing, Score}
 use Rattle.utf8.specs.declared.Utf8.{Utf8}
 use Rattle.iso2022jp.specs.declared.Iso2022Jp.{Iso2022Jp}
 use Rattle.euckr.specs.declared.EucKr.{EucKr}
@@ -14,9 +12,9 @@ use Rattle.arabic_french.specs.declared.ArabicFrench.{ArabicFrench}
 use Rattle.shift_jis.specs.declared.ShiftJis.{ShiftJis}
 use Rattle.lines.specs.Names.{state_name, out_name, korean_name, cj_name, case_name}
 
-unfoldable pub held_text : Held → List ℕ
-held_text Nothing = ascii "none"
-held_text (Score z) = signed_of z
+unfoldable pub held_text : Option ℤ → List ℕ
+held_text None = ascii "none"
+held_text (Some z) = signed_of z
 
 unfoldable pub utf8_text : Utf8 → List ℕ
 utf8_text m =

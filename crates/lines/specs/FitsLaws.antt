@@ -1,13 +1,11 @@
 -- A buffer of 2,048 bytes has room for the eleven lines of any state: no number has more than 20 digits, and the words are short.
-use Rattle.std.specs.Prelude.{◌≡◌, refl, Bool, List, [], ◌∷◌, ◌++◌, ℕ, zero, suc, ◌*◌, length, take, drop}
+use Rattle.std.specs.Prelude.{◌≡◌, refl, Bool, List, [], ◌∷◌, ◌++◌, ℕ, zero, suc, ◌*◌, length, take, drop, Ok, Err, None, Some, Option, ℤ}
 use Rattle.std.proofs.Common.{arith}
 use Rattle.std.proofs.Math.Seq.{take-nil}
 use Rattle.laws.specs.declared.Reason.{Reason}
 use Rattle.names.specs.NamesLaws.{place_name_lem, reason_name_lem}
 use Rattle.scribe.specs.FitsLaws.{Fits, text, line_end, joined, wide, flag, hex, decimal, signed, whole}
 use Rattle.scribe.specs.Page.{page, onto}
-use Rattle.pairs.specs.declared.Held.{Held}
-use Rattle.pairs.specs.declared.Held.TheVariants.{Nothing, Score}
 use Rattle.big5.specs.declared.LatinCj as cj
 use Rattle.euckr.specs.declared.LatinKorean as korean
 use Rattle.iso2022jp.specs.declared.DecoderState as decoder
@@ -17,7 +15,7 @@ use Rattle.kinds.specs.Kinds.{place_number}
 use Rattle.kinds.specs.declared.machine.Machine.{Machine}
 use Rattle.kinds.specs.declared.machine.Machine.TheVariants.{Utf8, Iso2022Jp, EucKr, Big5, Caseless, Logical, Visual, ArabicFrench, ShiftJis}
 use Rattle.places.specs.declared.place.Place.{Place}
-use Rattle.places.specs.declared.place.Score as score
+use Rattle.places.specs.Score.{Score}
 use Rattle.sheet.specs.SheetLaws.{leader_short}
 use Rattle.state.specs.Leader.{leader_of}
 use Rattle.state.specs.declared.State.{State}
@@ -26,10 +24,10 @@ use Rattle.lines.specs.Fields.{held_text, utf8_text, iso2022jp_text, euckr_text,
 use Rattle.lines.specs.Names.{state_name, out_name, korean_name, cj_name, case_name}
 use Rattle.lines.specs.Show.{saved_text, bytes_text, front_text, record_text, dropped_text, scored_text, place_text, places_text, state_text}
 
-held : (h : Held) → Fits 21 (held_text h)
+held : (h : Option ℤ) → Fits 21 (held_text h)
 unfolding held_text
-held Nothing = wide (text "none") refl
-held (Score z) = signed z
+held None = wide (text "none") refl
+held (Some z) = signed z
 
 -- ---- names
 state_name_lem : (s : decoder.DecoderState) → Fits 12 (state_name s)
@@ -95,10 +93,10 @@ dropped : (d : Reason) (at : ℕ) → Fits 43 (dropped_text d at)
 unfolding dropped_text
 dropped d at = joined (joined (joined (text " none ") (reason_name_lem d)) (joined (text " ") (decimal at))) line_end
 
-scored : (m : Machine) (s : score.Score) → Fits 151 (scored_text m s)
+scored : (m : Machine) (s : Score) → Fits 151 (scored_text m s)
 unfolding scored_text
-scored m (score.TheVariants.None d at) = wide (dropped d at) refl
-scored m (score.TheVariants.Live n) = joined (joined (joined (text " ") (signed n)) (in_record m)) line_end
+scored m (Err why) = wide (dropped why.reason why.at) refl
+scored m (Ok n) = joined (joined (joined (text " ") (signed n)) (in_record m)) line_end
 
 places : (ps : List Place) → Fits (164 * length ps) (places_text ps)
 unfolding places_text place_text

@@ -1,5 +1,5 @@
 -- Whole lines as text: a reply's, a refused start's, and the eleven of a state.
-use Rattle.std.specs.Prelude.{List, [], ◌∷◌, ◌++◌, ℕ}
+use Rattle.std.specs.Prelude.{List, [], ◌∷◌, ◌++◌, ℕ, Ok, Err}
 use Rattle.laws.specs.declared.Reason.{Reason}
 use Rattle.names.specs.Names.{place_name, reason_name}
 use Rattle.scribe.specs.Text.{ascii, newline, flag_of, hex_of, decimal_of, signed_of}
@@ -8,7 +8,7 @@ use Rattle.kinds.specs.Kinds.{place_number}
 use Rattle.kinds.specs.declared.machine.Machine.{Machine}
 use Rattle.kinds.specs.declared.machine.Machine.TheVariants.{Utf8, Iso2022Jp, EucKr, Big5, Caseless, Logical, Visual, ArabicFrench, ShiftJis}
 use Rattle.places.specs.declared.place.Place.{Place}
-use Rattle.places.specs.declared.place.Score as score
+use Rattle.places.specs.Score.{Score}
 use Rattle.sheet.specs.Sheet.{leader_line}
 use Rattle.state.specs.Leader.{leader_of}
 use Rattle.state.specs.Reply as reply
@@ -66,9 +66,9 @@ record_text (ShiftJis m) = shift_jis_text m
 unfoldable pub dropped_text : Reason → ℕ → List ℕ
 dropped_text d at = ascii " none " ++ reason_name d ++ (ascii " " ++ decimal_of at) ++ newline
 
-unfoldable pub scored_text : Machine → score.Score → List ℕ
-scored_text m (score.TheVariants.None d at) = dropped_text d at
-scored_text m (score.TheVariants.Live n) = ascii " " ++ signed_of n ++ record_text m ++ newline
+unfoldable pub scored_text : Machine → Score → List ℕ
+scored_text m (Err why) = dropped_text why.reason why.at
+scored_text m (Ok n) = ascii " " ++ signed_of n ++ record_text m ++ newline
 
 unfoldable pub place_text : Place → List ℕ
 place_text p = place_name (place_number p.machine) ++ scored_text p.machine p.score

@@ -1,67 +1,68 @@
-// The words of the format.
+// The words of the format, a function for each kind. `Display` can be written for a type in its own crate alone, and a trait here
+// would have the same five bodies, since the words are all that they hold.
 ghost use Rattle.std.specs.Prelude.{◌≡◌};
 ghost use Rattle.lines.specs.Names.{state_name, out_name, korean_name, cj_name, case_name};
-ghost use Rattle.scribe.specs.Page.{page, onto};
+ghost use Rattle.scribe.specs.Page.{onto};
 
 use arabic_french::LatinCaseState;
 use big5::LatinCj;
 use euckr::LatinKorean;
 use iso2022jp::{DecoderState, OutputState};
-use scribe::page;
+use scribe::page::Page;
 
-pub(crate) fn decoder_state(out: &mut [u8], at: usize, s: DecoderState) -> usize
-    ensures { page out.new result ≡ onto (page out.old at) (state_name s) }
+pub(crate) fn decoder_state(out: &mut Page, s: DecoderState)
+    ensures { out.new ≡ onto out.old (state_name s) }
 {
     match s {
-        DecoderState::Ascii => page::word(out, at, b"ascii"),
-        DecoderState::Roman => page::word(out, at, b"roman"),
-        DecoderState::Katakana => page::word(out, at, b"katakana"),
-        DecoderState::LeadByte => page::word(out, at, b"lead"),
-        DecoderState::TrailByte => page::word(out, at, b"trail"),
-        DecoderState::EscapeStart => page::word(out, at, b"escape-start"),
-        DecoderState::Escape => page::word(out, at, b"escape"),
+        DecoderState::Ascii => out.word(b"ascii"),
+        DecoderState::Roman => out.word(b"roman"),
+        DecoderState::Katakana => out.word(b"katakana"),
+        DecoderState::LeadByte => out.word(b"lead"),
+        DecoderState::TrailByte => out.word(b"trail"),
+        DecoderState::EscapeStart => out.word(b"escape-start"),
+        DecoderState::Escape => out.word(b"escape"),
     }
 }
 
-pub(crate) fn output_state(out: &mut [u8], at: usize, s: OutputState) -> usize
-    ensures { page out.new result ≡ onto (page out.old at) (out_name s) }
+pub(crate) fn output_state(out: &mut Page, s: OutputState)
+    ensures { out.new ≡ onto out.old (out_name s) }
 {
     match s {
-        OutputState::Ascii => page::word(out, at, b"ascii"),
-        OutputState::Roman => page::word(out, at, b"roman"),
-        OutputState::Katakana => page::word(out, at, b"katakana"),
-        OutputState::LeadByte => page::word(out, at, b"lead"),
+        OutputState::Ascii => out.word(b"ascii"),
+        OutputState::Roman => out.word(b"roman"),
+        OutputState::Katakana => out.word(b"katakana"),
+        OutputState::LeadByte => out.word(b"lead"),
     }
 }
 
-pub(crate) fn korean(out: &mut [u8], at: usize, kind: LatinKorean) -> usize
-    ensures { page out.new result ≡ onto (page out.old at) (korean_name kind) }
+pub(crate) fn korean(out: &mut Page, kind: LatinKorean)
+    ensures { out.new ≡ onto out.old (korean_name kind) }
 {
     match kind {
-        LatinKorean::AsciiLetter => page::word(out, at, b"letter"),
-        LatinKorean::Hangul => page::word(out, at, b"hangul"),
-        LatinKorean::Hanja => page::word(out, at, b"hanja"),
-        LatinKorean::Other => page::word(out, at, b"other"),
+        LatinKorean::AsciiLetter => out.word(b"letter"),
+        LatinKorean::Hangul => out.word(b"hangul"),
+        LatinKorean::Hanja => out.word(b"hanja"),
+        LatinKorean::Other => out.word(b"other"),
     }
 }
 
-pub(crate) fn cj(out: &mut [u8], at: usize, kind: LatinCj) -> usize
-    ensures { page out.new result ≡ onto (page out.old at) (cj_name kind) }
+pub(crate) fn cj(out: &mut Page, kind: LatinCj)
+    ensures { out.new ≡ onto out.old (cj_name kind) }
 {
     match kind {
-        LatinCj::AsciiLetter => page::word(out, at, b"letter"),
-        LatinCj::Cj => page::word(out, at, b"cj"),
-        LatinCj::Other => page::word(out, at, b"other"),
+        LatinCj::AsciiLetter => out.word(b"letter"),
+        LatinCj::Cj => out.word(b"cj"),
+        LatinCj::Other => out.word(b"other"),
     }
 }
 
-pub(crate) fn case(out: &mut [u8], at: usize, case: LatinCaseState) -> usize
-    ensures { page out.new result ≡ onto (page out.old at) (case_name case) }
+pub(crate) fn case(out: &mut Page, case: LatinCaseState)
+    ensures { out.new ≡ onto out.old (case_name case) }
 {
     match case {
-        LatinCaseState::Space => page::word(out, at, b"space"),
-        LatinCaseState::Upper => page::word(out, at, b"upper"),
-        LatinCaseState::Lower => page::word(out, at, b"lower"),
-        LatinCaseState::AllCaps => page::word(out, at, b"caps"),
+        LatinCaseState::Space => out.word(b"space"),
+        LatinCaseState::Upper => out.word(b"upper"),
+        LatinCaseState::Lower => out.word(b"lower"),
+        LatinCaseState::AllCaps => out.word(b"caps"),
     }
 }

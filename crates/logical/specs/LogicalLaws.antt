@@ -1,6 +1,7 @@
 -- Laws of the machine of logical order, for its code and its callers.
 use Rattle.std.specs.Prelude.{◌≡◌, true, List, ℕ, ◌+◌, ◌≤◌, ℤ, length}
 use Rattle.std.proofs.Common.{arith, leb-true, le-leb}
+use Rattle.laws.specs.Answer.{answered}
 use Rattle.laws.specs.Limit.{room}
 use Rattle.laws.specs.Run.{live, none, alive, run, last_at}
 use Rattle.laws.specs.declared.Reason.{Reason}
@@ -12,7 +13,8 @@ use Rattle.single.specs.ClassLaws.{live_is, none_why}
 use Rattle.single.specs.Fit.{Fit}
 use Rattle.single.specs.FitLaws.{common_true, true_common, common_more, common_next, count_next}
 use Rattle.single.specs.Lent.{Lent}
-use Rattle.logical.specs.Logical.{plausible, next_of, step_of, close_of, Sound, sound_b, ran_as, ran_of, closed_of}
+use Rattle.single.specs.Steps.{IsSound}
+use Rattle.logical.specs.Logical.{plausible, next_of, step_of, close_of, Sound, sound_b, ran_of, closed_of}
 use Rattle.logical.specs.declared.Logical.{Logical}
 
 -- what the record can hold is kept, and no count grows by more than one
@@ -38,6 +40,9 @@ sound_true n m e =
 pub true_sound : (n : ℕ) (m : Logical) → Sound n m → sound_b n m ≡ true
 true_sound n m o = rw (le-leb _ _ o.punctuation_most) (true_common n _ _ _ o.common)
 
+pub is_sound : IsSound step_of Sound sound_b
+is_sound = record { next = sound_next; more = sound_more; tested = sound_true; holds = true_sound }
+
 -- ---- why it drops out
 pub step_reason : (t : Lent) (m : Logical) (b : ℕ) (d : Reason) → step_of t m b ≡ none d → d ≡ Class255
 unfolding step_of
@@ -48,10 +53,8 @@ close_reason t m d e = step_reason t m space d e
 
 -- ---- what a caller that has tested uses
 module _ (t : Lent) (m : Logical) where
-  pub ran_fit : (xs : List ℕ) → Fit t (Sound room m) (length xs) → ran_of t m xs ≡ ran_as (last_at (step_of t) (alive m) xs) (run (step_of t) (alive m) xs)
-  unfolding ran_of
-  ran_fit xs o = fit_ran _ _ _ _ _ t m (true_sound room m) xs o
+  pub ran_fit : (xs : List ℕ) → Fit t (Sound room m) (length xs) → ran_of t m xs ≡ answered (last_at (step_of t) (alive m) xs) (run (step_of t) (alive m) xs)
+  ran_fit xs o = fit_ran _ _ t m (true_sound room m) xs o
 
-  pub closed_fit : Fit t (Sound room m) 0 → closed_of t m ≡ ran_as 0 (close_of t m)
-  unfolding closed_of
-  closed_fit o = fit_closed _ _ _ _ _ t m (true_sound room m) o
+  pub closed_fit : Fit t (Sound room m) 0 → closed_of t m ≡ answered 0 (close_of t m)
+  closed_fit o = fit_closed _ _ t m (true_sound room m) o

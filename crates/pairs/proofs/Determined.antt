@@ -17,12 +17,12 @@ use Rattle.pairs.proofs.is_held_lead.Kinds as is-held-lead-kinds
 use Rattle.pairs.proofs.is_held_lead.Reads as is-held-lead-reads
 use Rattle.pairs.proofs.is_letter.Kinds as is-letter-kinds
 use Rattle.pairs.proofs.is_letter.Reads as is-letter-reads
-use Rattle.pairs.proofs.Held.kept.Kinds as kept-kinds
-use Rattle.pairs.proofs.Held.kept.Reads as kept-reads
-use Rattle.pairs.proofs.Held.released.Kinds as released-kinds
-use Rattle.pairs.proofs.Held.released.Reads as released-reads
-use Rattle.pairs.proofs.Held.is_small.Kinds as is-small-kinds
-use Rattle.pairs.proofs.Held.is_small.Reads as is-small-reads
+use Rattle.pairs.proofs.kept.Kinds as kept-kinds
+use Rattle.pairs.proofs.kept.Reads as kept-reads
+use Rattle.pairs.proofs.released.Kinds as released-kinds
+use Rattle.pairs.proofs.released.Reads as released-reads
+use Rattle.pairs.proofs.is_small.Kinds as is-small-kinds
+use Rattle.pairs.proofs.is_small.Reads as is-small-reads
 
 pub is_lead_lem : Determined 0 is-lead-kinds.ps is-lead-kinds.r is-lead-reads.Asked is-lead-reads.Learnt
 is_lead_lem = record { total = λ κs a. tt; one = λ κs a z z' w w' p q. (same p q, refl) }

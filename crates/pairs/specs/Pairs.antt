@@ -1,13 +1,11 @@
 -- What Big5 and EUC-KR share: the leads, the held score, the leads that hold.
-use Rattle.std.specs.Prelude.{Bool, cond, ◌||◌, ℕ, ◌≤◌, leb, eqb, ℤ, pos, nat_abs}
+use Rattle.std.specs.Prelude.{Bool, cond, ◌||◌, ℕ, ◌≤◌, leb, eqb, ℤ, pos, nat_abs, Option, Some, None}
 use Rattle.laws.specs.declared.Reason.{Reason}
 use Rattle.laws.specs.declared.Reason.TheVariants.{BadByte, BadSecondByte}
 use Rattle.octets.specs.Octets.{between, is_problematic_lead}
 use Rattle.weights.specs.Weights.{term}
 use Rattle.pairs.specs.declared.Decoded.{Decoded}
 use Rattle.pairs.specs.declared.Event.{Event}
-use Rattle.pairs.specs.declared.Held.{Held}
-use Rattle.pairs.specs.declared.Held.TheVariants.{Nothing, Score}
 
 -- ---- leads
 abbrev pub is_lead : ℕ → Bool
@@ -29,12 +27,12 @@ abbrev pub is_held_lead : ℕ → Bool
 is_held_lead b = is_problematic_lead b
 
 -- what is added to the score where a held score is released
-abbrev pub released_of : Held → ℤ
-released_of Nothing = pos 0
-released_of (Score s) = s
+abbrev pub released_of : Option ℤ → ℤ
+released_of None = pos 0
+released_of (Some s) = s
 
-abbrev pub SmallHeld : Held → Type 0
+abbrev pub SmallHeld : Option ℤ → Type 0
 SmallHeld h = nat_abs (released_of h) ≤ term
 
-unfoldable pub small_held_b : Held → Bool
+unfoldable pub small_held_b : Option ℤ → Bool
 small_held_b h = leb (nat_abs (released_of h)) term

@@ -1,5 +1,5 @@
 -- What a lead can be, what lead the handler leaves, what a reason can be, and the test of a held score.
-use Rattle.std.specs.Prelude.{◌≡◌, refl, Bool, true, false, ◌||◌, ◌⊎◌, ℕ, ◌≤◌, eqb}
+use Rattle.std.specs.Prelude.{◌≡◌, refl, Bool, true, false, ◌||◌, ◌⊎◌, ℕ, ◌≤◌, eqb, ℤ, Option}
 use Rattle.std.proofs.Math.Bool.{or-true}
 use Rattle.std.proofs.Common.{inl, inr, arith, leb-true, le-leb, eqb-true, ne_eqb}
 use Rattle.laws.specs.Handler.{byte, Result, vars_of}
@@ -10,7 +10,6 @@ use Rattle.octets.specs.Octets.{ascii}
 use Rattle.pairs.specs.Pairs.{is_lead, is_lead_or_none, reason_by, SmallHeld, small_held_b}
 use Rattle.pairs.specs.Standard.{CodePoints, null, one, two, Layout, first, returned, handler}
 use Rattle.pairs.specs.Ranges.{range_true}
-use Rattle.pairs.specs.declared.Held.{Held}
 
 -- ---- what a decoder can hold
 pub lead_bounds : (b : ℕ) → is_lead b ≡ true → (0x81 ≤ b) × (b ≤ 0xFE)
@@ -50,10 +49,10 @@ pub reason_either : (lead : ℕ) → OfPairs (reason_by lead)
 reason_either lead = picked OfPairs (eqb lead 0) (inl refl) (inr refl)
 
 -- ---- a held score's test
-pub held_true : (h : Held) → small_held_b h ≡ true → SmallHeld h
+pub held_true : (h : Option ℤ) → small_held_b h ≡ true → SmallHeld h
 unfolding small_held_b
 held_true h e = leb-true _ _ e
 
-pub true_held : (h : Held) → SmallHeld h → small_held_b h ≡ true
+pub true_held : (h : Option ℤ) → SmallHeld h → small_held_b h ≡ true
 unfolding small_held_b
 true_held h p = le-leb _ _ p

@@ -9,7 +9,7 @@ ghost use Rattle.pairs.specs.Events.{malformed_of, first_of};
 use laws::Reason;
 
 // What a decoder yields at a byte: nothing yet, one code point, two, or an error of so many bytes.
-#[derive(Clone, Copy)]
+#[derive(Clone, Copy, PartialEq, Eq)]
 pub enum Event {
     Pending,
     Point(u32),
@@ -17,65 +17,50 @@ pub enum Event {
     Error(u8),
 }
 
-// The decoder's lead after a byte, and what the byte yields.
-#[derive(Clone, Copy)]
+// The decoder's lead after a byte, and what the byte yields. The lead is 0 where there is none, as in the Standard, in the
+// definitions over it and in a record that C holds.
+#[derive(Clone, Copy, PartialEq, Eq)]
 pub struct Decoded {
     pub lead: u8,
     pub event: Event,
 }
 
-// What a decoder alone answers: or its lead or its index was not fit.
-#[derive(Clone, Copy)]
-pub enum Reply {
-    Byte(Decoded),
-    Unfit,
-}
-
-// A score that waits for what follows (`pending_score` in the Rust).
-#[derive(Clone, Copy)]
-pub enum Held {
-    Nothing,
-    Score(i64),
-}
+// The largest size of a score that waits for what follows (`pending_score` in the Rust).
+pub const MOST_HELD: u64 = 2147483648;
 
 pub fn is_lead(b: u8) -> bool
     ensures { result ≡ is_lead b }
 {
-    if b < 0x81 {
-        return false;
-    }
-    b < 0xFF
+    matches!(b, 0x81..=0xFE)
 }
 
 // Whether a decoder can hold it: a lead, or 0.
 pub fn is_lead_or_none(lead: u8) -> bool
     ensures { result ≡ is_lead_or_none lead }
 {
-    if lead == 0 {
-        return true;
-    }
-    is_lead(lead)
+    lead == 0 || is_lead(lead)
 }
 
 // The error of a lead with a byte that makes no pair with it: the byte is part of it unless it is ASCII.
+#[tactic(auto, unfolding(crate::specs::Standard::returned, crate::specs::Events::event_of))]
 pub fn malformed(b: u8) -> Event
     ensures { result ≡ malformed_of b }
 {
-    if b < 0x80 {
+    if octets::is_ascii(b) {
         return Event::Error(1);
     }
     Event::Error(2)
 }
 
 // A byte where no lead is pending.
+#[tactic(auto, unfolding(crate::specs::Standard::first, laws::specs::Handler::vars_of, crate::specs::Events::event_of, crate::specs::Events::points_as))]
 pub fn first(b: u8) -> Decoded
     ensures { result ≡ first_of b }
 {
-    if b < 0x80 {
-        let point = b as u32;
+    if octets::is_ascii(b) {
         return Decoded {
             lead: 0,
-            event: Event::Point(point),
+            event: Event::Point(b as u32),
         };
     }
     if is_lead(b) {
@@ -104,10 +89,7 @@ pub fn reason(lead: u8) -> Reason
 pub fn rows(lead: u8) -> usize
     ensures { result ≡ lead - 0x81 }
 {
-    if lead < 0x81 {
-        return 0;
-    }
-    (lead - 0x81) as usize
+    lead.saturating_sub(0x81) as usize
 }
 
 // Whether a score is held after this byte.
@@ -120,50 +102,30 @@ pub fn is_held_lead(b: u8) -> bool
 pub fn is_letter(u: u32) -> bool
     ensures { result ≡ letter u }
 {
-    if u < 0x41 {
-        return false;
-    }
-    if u < 0x5B {
-        return true;
-    }
-    if u < 0x61 {
-        return false;
-    }
-    u < 0x7B
+    matches!(u, 0x41..=0x5A | 0x61..=0x7A)
 }
 
-impl Held {
-    // The largest size of a held score.
-    pub const MOST: i64 = 2147483648;
-
-    // The same, made anew. Where it is copied as it is, the bytes between its two fields are copied along, which costs four
-    // instructions for each byte of a text.
-    pub fn kept(self) -> Held
-        ensures { result ≡ self }
-    {
-        match self {
-            Held::Nothing => Held::Nothing,
-            Held::Score(s) => Held::Score(s),
-        }
+// The same, made anew. Where EUC-KR's step copies it as it is, its loop costs half an instruction more for each byte of Korean text;
+// Big5's loop costs one less.
+pub fn kept(held: Option<i64>) -> Option<i64>
+    ensures { result ≡ held }
+{
+    match held {
+        None => None,
+        Some(s) => Some(s),
     }
+}
 
-    // What a release adds to the score.
-    pub fn released(self) -> i64
-        ensures { result ≡ released_of self }
-    {
-        match self {
-            Held::Nothing => 0,
-            Held::Score(s) => s,
-        }
-    }
+// What a release adds to the score.
+pub fn released(held: Option<i64>) -> i64
+    ensures { result ≡ released_of held }
+{
+    held.unwrap_or(0)
+}
 
-    pub fn is_small(self) -> bool
-        ensures { result ≡ small_held_b self }
-    {
-        let s = self.released();
-        if s < 0 {
-            return -2147483648 <= s;
-        }
-        s <= Held::MOST
-    }
+#[tactic(auto, unfolding(crate::specs::Pairs::small_held_b))]
+pub fn is_small(held: Option<i64>) -> bool
+    ensures { result ≡ small_held_b held }
+{
+    released(held).unsigned_abs() <= MOST_HELD
 }

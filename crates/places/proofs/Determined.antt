@@ -16,8 +16,8 @@ order_are_in_order = record { total = λ κs a. tt; one = λ κs a z z' w w' p q
 pub slate_start : Determined 0 slate-start-kinds.ps slate-start-kinds.r slate-start-reads.Asked slate-start-reads.Learnt
 slate_start = record { total = λ κs a. tt; one = λ κs a z z' w w' p q. (same p q, refl) }
 
-pub slate_feed : Determined 18 slate-feed-kinds.ps slate-feed-kinds.r slate-feed-reads.Asked slate-feed-reads.Learnt
+pub slate_feed : Determined 3 slate-feed-kinds.ps slate-feed-kinds.r slate-feed-reads.Asked slate-feed-reads.Learnt
 slate_feed = record { total = λ κs a. tt; one = λ κs a z z' w w' p q. (same p.0 q.0, refl) }
 
-pub slate_feed_after : Determined 19 slate-feed-after-kinds.ps slate-feed-after-kinds.r slate-feed-after-reads.Asked slate-feed-after-reads.Learnt
+pub slate_feed_after : Determined 4 slate-feed-after-kinds.ps slate-feed-after-kinds.r slate-feed-after-reads.Asked slate-feed-after-reads.Learnt
 slate_feed_after = record { total = λ κs a. tt; one = λ κs a z z' w w' p q. (same p.0 q.0, refl) }

@@ -1,8 +1,10 @@
 -- What the code makes of places that may hold anything: each place's machine is asked, and its answer settles the place. In a
 -- state in order it is what `feed_all` says (FedLaws).
-use Rattle.std.specs.Prelude.{◌≡◌, ℕ, suc, ◌+◌, ◌-◌, ◌*◌, ◌%◌, ◌^◌, Bool, true, false, cond, List, [], ◌∷◌, length, ℤ, slice_index_or}
+use Rattle.std.specs.Prelude.{◌≡◌, ℕ, suc, ◌+◌, ◌-◌, ◌*◌, ◌%◌, ◌^◌, Bool, true, false, cond, List, [], ◌∷◌, length, ℤ, slice_index_or, Ok, Err}
+use Rattle.laws.specs.Answer.{Ran}
 use Rattle.laws.specs.Each.{EachFrom}
 use Rattle.laws.specs.declared.Reason.TheVariants.{NotInSlate}
+use Rattle.laws.specs.declared.Stop.TheVariants as stop
 use Rattle.signed.specs.Sum.{sum_of}
 use Rattle.single.specs.Class.{space}
 use Rattle.weights.specs.Weights.{per_byte}
@@ -20,12 +22,9 @@ use Rattle.tables.specs.Own.{Own, own_of}
 use Rattle.tables.specs.Tables.{Tables}
 use Rattle.kinds.specs.declared.machine.Machine.{Machine}
 use Rattle.kinds.specs.declared.machine.Machine.TheVariants.{Utf8, Iso2022Jp, EucKr, Big5, Caseless, Logical, Visual, ArabicFrench, ShiftJis}
-use Rattle.kinds.specs.declared.machine.Ran.{Ran}
-use Rattle.kinds.specs.declared.machine.Ran.TheVariants as ran
 use Rattle.places.specs.Place.{place}
 use Rattle.places.specs.declared.place.Place.{Place}
-use Rattle.places.specs.declared.place.Score.{Score}
-use Rattle.places.specs.declared.place.Score.TheVariants.{None, Live}
+use Rattle.places.specs.Score.{Score, no_score}
 
 -- ---- one place
 -- the fresh machine of each place's kind
@@ -37,15 +36,15 @@ abbrev pub fresh_at : ℕ → Machine
 fresh_at k = slice_index_or freshes k (Utf8 utf-8.fresh)
 
 -- the sum, in the 64 bits of a score; or none, and the fresh machine
-unfoldable pub settled_of : Machine → ℤ → ℕ → ℕ → Ran → Place
-settled_of fresh s body bytes (ran.Live n g) = place n (Live (sum_of s g))
-settled_of fresh s body bytes (ran.Dropped d at) = place fresh (None d (body - (bytes - at - 1)))
-settled_of fresh s body bytes ran.Unfit = place fresh (None NotInSlate 0)
+unfoldable pub settled_of : Machine → ℤ → ℕ → ℕ → Ran Machine → Place
+settled_of fresh s body bytes (Ok a) = place a.0 (Ok (sum_of s a.1))
+settled_of fresh s body bytes (Err (stop.Dropped d at)) = place fresh (no_score d (body - (bytes - at - 1)))
+settled_of fresh s body bytes (Err stop.Unfit) = place fresh (no_score NotInSlate 0)
 
 -- without a score nothing is asked
-unfoldable pub settled_from : Machine → ℕ → ℕ → Ran → Score → Place
-settled_from fresh body bytes r (None d at) = place fresh (None d at)
-settled_from fresh body bytes r (Live s) = settled_of fresh s body bytes r
+unfoldable pub settled_from : Machine → ℕ → ℕ → Ran Machine → Score → Place
+settled_from fresh body bytes r (Err why) = place fresh (Err why)
+settled_from fresh body bytes r (Ok s) = settled_of fresh s body bytes r
 
 -- a part of a chunk to place k
 abbrev pub fed_as : ℕ → Own → ℕ → List ℕ → Place → Place
@@ -88,8 +87,8 @@ pub record KnownRan (k : ℕ) (t : Own) (xs : List ℕ) (m : Machine) : Type 0 w
   pub weighed : Weighed m t.weights (ran_at k t m xs)
 
 abbrev pub KnownFrom : ℕ → Own → List ℕ → Machine → Score → Type 0
-KnownFrom k t xs m (None d at) = Unit {0}
-KnownFrom k t xs m (Live s) = KnownRan k t xs m
+KnownFrom k t xs m (Err why) = Unit {0}
+KnownFrom k t xs m (Ok s) = KnownRan k t xs m
 
 abbrev pub KnownFed : ℕ → Own → List ℕ → Place → Type 0
 KnownFed k t xs p = KnownFrom k t xs p.machine p.score

@@ -1,27 +1,27 @@
 -- In a state in order, what the code makes of the places is what `feed_all` says, and they stay in order.
-use Rattle.std.specs.Prelude.{◌≡◌, ℕ, suc, ◌+◌, ◌-◌, ◌*◌, ◌^◌, ◌<◌, ◌≤◌, Bool, true, false, cond, List, [], ◌∷◌, length, get_or, ℤ, pos, slice_index_or, unsigned_abs}
+use Rattle.std.specs.Prelude.{◌≡◌, ℕ, suc, ◌+◌, ◌-◌, ◌*◌, ◌^◌, ◌<◌, ◌≤◌, Bool, true, false, cond, List, [], ◌∷◌, length, get_or, ℤ, pos, slice_index_or, unsigned_abs, Ok, Err}
 use Rattle.std.proofs.Math.Path.{refl, ap}
 use Rattle.std.proofs.Common.{sym, subst, ◌∙◌, mul-le-mul_left, arith, eq-eqb}
+use Rattle.laws.specs.Answer.{Ran}
 use Rattle.laws.specs.Each.{EachFrom}
 use Rattle.laws.specs.Limit.{limit}
 use Rattle.laws.specs.Run.{live, plus, run, run_one, ends_one}
 use Rattle.laws.specs.declared.Reason.{Reason}
 use Rattle.laws.specs.declared.Reason.TheVariants.{NotInSlate}
+use Rattle.laws.specs.declared.Stop.TheVariants as stop
 use Rattle.signed.specs.Sum.{sum_of}
 use Rattle.single.specs.Class.{space}
 use Rattle.weights.specs.Weights.{per_byte}
 use Rattle.kinds.specs.KindLaws.{reach_open}
 use Rattle.kinds.specs.Kinds.{place_number, is_single, fresh_of, step_of, close_of, ran_as, ran_of, closed_of, ran_at, decoded_end, Bounded, Weighed}
 use Rattle.kinds.specs.KindsLaws.{ran_fit, closed_fit}
-use Rattle.kinds.specs.Sound.{SoundFor}
+use Rattle.kinds.specs.Sound.{SoundFor, takes_space}
 use Rattle.kinds.specs.SoundLaws.{sound_more}
 use Rattle.tables.specs.Own.{Own, place_count, own_of, SizedAt}
 use Rattle.tables.proofs.OwnLaws.{own_sized}
 use Rattle.tables.specs.Tables.{Tables, Sized}
 use Rattle.kinds.specs.declared.machine.Machine.{Machine}
 use Rattle.kinds.specs.declared.machine.Machine.TheVariants.{Utf8, Iso2022Jp, EucKr, Big5, Caseless, Logical, Visual, ArabicFrench, ShiftJis}
-use Rattle.kinds.specs.declared.machine.Ran.{Ran}
-use Rattle.kinds.specs.declared.machine.Ran.TheVariants as ran
 use Rattle.places.specs.Fed.{fresh_at, past, settled_of, settled_from, fed_as, decoder_ended, ended_as, fed_each_from, fed_each, ended_each_from, ended_each, slate_fed, KnownRan, KnownFrom, KnownFed, AllKnown, KnownEnd, EndKnown, SlateKnown}
 use Rattle.places.specs.Kept.{Kept, Ended, AllKept}
 use Rattle.places.specs.Order.{ScoredFor, PlaceFor, SlateFor}
@@ -32,8 +32,7 @@ use Rattle.places.specs.Slate.{place_at, feed_from, feed_all}
 use Rattle.places.specs.SlateLaws.{place_read, joined, listed, is_listed, slate_more}
 use Rattle.places.specs.Steps.{BoundedScore, FitPart}
 use Rattle.places.specs.declared.place.Place.{Place}
-use Rattle.places.specs.declared.place.Score.{Score}
-use Rattle.places.specs.declared.place.Score.TheVariants.{None, Live}
+use Rattle.places.specs.Score.{Score, no_score}
 
 -- ---- the kinds, by their numbers
 fresh_number : (m : Machine) → fresh_of m ≡ fresh_at (place_number m)
@@ -47,6 +46,25 @@ fresh_number (Logical m) = refl
 fresh_number (Visual m) = refl
 fresh_number (ArabicFrench m) = refl
 fresh_number (ShiftJis m) = refl
+
+space_single : (m : Machine) → takes_space m ≡ is_single (place_number m)
+space_single (Utf8 m) = refl
+space_single (Iso2022Jp m) = refl
+space_single (EucKr m) = refl
+space_single (Big5 m) = refl
+space_single (Caseless m) = refl
+space_single (Logical m) = refl
+space_single (Visual m) = refl
+space_single (ArabicFrench m) = refl
+space_single (ShiftJis m) = refl
+
+-- a kind's fresh machine is its place's, and the end is a space to it where it is one to the place
+module _ {S : Type 0} (whole : S → Machine) (fresh : S) (k : ℕ) (numbered : place_number (whole fresh) ≡ k) where
+  pub kind_fresh : fresh_of (whole fresh) ≡ whole fresh → whole fresh ≡ fresh_at k
+  kind_fresh e = sym e ∙ (fresh_number (whole fresh) ∙ ap fresh_at numbered)
+
+  pub kind_space : (space : Bool) → takes_space (whole fresh) ≡ space → is_single k ≡ space
+  kind_space space e = ap is_single (sym numbered) ∙ (sym (space_single (whole fresh)) ∙ e)
 
 below_count : (m : Machine) → place_number m < place_count
 below_count (Utf8 m) = omega arith
@@ -111,11 +129,11 @@ single_at b (ShiftJis m) h l = cc
 
 -- ---- a place in order, over tables of its own lengths
 score_bounded : (n b k : ℕ) (m : Machine) (c : Score) → n ≤ limit → ScoredFor n b false true k m c → BoundedScore (per_byte * limit) c
-score_bounded n b k m (None d at) h q = tt
-score_bounded n b k m (Live s) h q = let e : per_byte * n ≤ per_byte * limit = mul-le-mul_left per_byte h in omega (arith, q)
+score_bounded n b k m (Err why) h q = tt
+score_bounded n b k m (Ok s) h q = let e : per_byte * n ≤ per_byte * limit = mul-le-mul_left per_byte h in omega (arith, q)
 
 module _ (k : ℕ) (t : Own) (sized : SizedAt k t) (n b : ℕ) (p : Place) (o : PlaceFor n b false true k p) where
-  blank : (d : Reason) (at : ℕ) → p.score ≡ None d at → place (fresh_at k) (None d at) ≡ p
+  blank : (d : Reason) (at : ℕ) → p.score ≡ no_score d at → place (fresh_at k) (no_score d at) ≡ p
   blank d at e =
       let f : p.machine ≡ fresh_of p.machine = (rw e at o.scored).0 in
       let g : fresh_at k ≡ p.machine = sym (f ∙ (fresh_number p.machine ∙ ap fresh_at o.kind)) in
@@ -144,13 +162,13 @@ module _ (k : ℕ) (t : Own) (sized : SizedAt k t) (n b : ℕ) (p : Place) (o : 
 
   -- ---- a part
   module _ (body : ℕ) (xs : List ℕ) (short : n + length xs ≤ limit) where
-    fed_live : (z : ℤ) → p.score ≡ Live z → KnownRan k t xs p.machine → (settled_of (fresh_at k) z body (length xs) (ran_at k t p.machine xs) ≡ feed_of t false body xs p) × Kept t false body xs p
+    fed_live : (z : ℤ) → p.score ≡ Ok z → KnownRan k t xs p.machine → (settled_of (fresh_at k) z body (length xs) (ran_at k t p.machine xs) ≡ feed_of t false body xs p) × Kept t false body xs p
     fed_live z e known =
         let w = fed_way t body xs p (fit xs short) z e (ran_at k t p.machine xs) (ran_own xs) known.small known.weighed in
         (ap (λ (f : Machine). settled_of f z body (length xs) (ran_at k t p.machine xs)) fresh_own ∙ (w.0 ∙ feed_open t body xs p z e), kept_open t body xs p z e w.1)
 
     -- of a live place the code knows the run
-    run_known : (z : ℤ) → p.score ≡ Live z → KnownFed k t xs p → KnownRun t xs p.machine
+    run_known : (z : ℤ) → p.score ≡ Ok z → KnownFed k t xs p → KnownRun t xs p.machine
     run_known z e known =
         let k' : KnownRan k t xs p.machine = rw e at known in
         (fed_way t body xs p (fit xs short) z e (ran_at k t p.machine xs) (ran_own xs) k'.small k'.weighed).1
@@ -160,19 +178,19 @@ module _ (k : ℕ) (t : Own) (sized : SizedAt k t) (n b : ℕ) (p : Place) (o : 
     part_fed known = by p.score refl known
       where
         by : (c : Score) → p.score ≡ c → KnownFrom k t xs p.machine c → (settled_from (fresh_at k) body (length xs) (ran_at k t p.machine xs) c ≡ feed_of t false body xs p) × Kept t false body xs p
-        by (None d at) e known = (blank d at e ∙ feed_none t body xs p d at e false, kept_none t body xs p d at e false)
-        by (Live z) e known = fed_live z e known
+        by (Err why) e known = (blank why.reason why.at e ∙ feed_none t body xs p why.reason why.at e false, kept_none t body xs p why.reason why.at e false)
+        by (Ok z) e known = fed_live z e known
 
   -- ---- the end of the stream
   module _ (most : n ≤ limit) (few : b ≤ limit) where
-    score_small : (z : ℤ) → p.score ≡ Live z → unsigned_abs z + per_byte < 2 ^ 63
+    score_small : (z : ℤ) → p.score ≡ Ok z → unsigned_abs z + per_byte < 2 ^ 63
     score_small z e =
         let h : unsigned_abs z ≤ per_byte * n = rw (reach_open p.machine n, e) at o.scored in
         let m : per_byte * n ≤ per_byte * limit = mul-le-mul_left per_byte most in
         omega arith
 
     -- an answer whose place is the end's
-    end_live_as : (z : ℤ) → p.score ≡ Live z → (f : Machine) → f ≡ fresh_of p.machine → (r : Ran) (body bytes at : ℕ) → r ≡ ran_as at (close_of t p.machine) → body - (bytes - at - 1) ≡ end_at p.machine b → BoundedOut per_byte (close_of t p.machine) → (settled_of f z body bytes r ≡ end_of t b p) × Ended t b p
+    end_live_as : (z : ℤ) → p.score ≡ Ok z → (f : Machine) → f ≡ fresh_of p.machine → (r : Ran Machine) (body bytes at : ℕ) → r ≡ ran_as at (close_of t p.machine) → body - (bytes - at - 1) ≡ end_at p.machine b → BoundedOut per_byte (close_of t p.machine) → (settled_of f z body bytes r ≡ end_of t b p) × Ended t b p
     end_live_as z e f g r body bytes at i q h =
         let m = p.machine in
         let c = close_of t p.machine in
@@ -183,8 +201,8 @@ module _ (k : ℕ) (t : Own) (sized : SizedAt k t) (n b : ℕ) (p : Place) (o : 
     decoder_way l = by p.score refl
       where
         by : (c : Score) → p.score ≡ c → (settled_from (fresh_of p.machine) b 0 (decoded_end p.machine) c ≡ end_of t b p) × Ended t b p
-        by (None d at) e = (ap (λ (f : Machine). place f (None d at)) (sym fresh_own) ∙ (blank d at e ∙ end_none t b p d at e), ended_none t b p d at e)
-        by (Live z) e =
+        by (Err why) e = (ap (λ (f : Machine). place f (Err why)) (sym fresh_own) ∙ (blank why.reason why.at e ∙ end_none t b p why.reason why.at e), ended_none t b p why.reason why.at e)
+        by (Ok z) e =
             let m = p.machine in
             let s : SoundFor n n p.machine = rw (reach_open p.machine n) at o.sound in
             let c = closed_fit t m own_lengths (sound_more n (2 * limit) n (2 * limit) m (omega (arith, most)) (omega (arith, most)) s) in
@@ -201,8 +219,8 @@ module _ (k : ℕ) (t : Own) (sized : SizedAt k t) (n b : ℕ) (p : Place) (o : 
     single_way l known = by p.score refl known
       where
         by : (c : Score) → p.score ≡ c → KnownFrom k t (space ∷ []) p.machine c → (settled_from (fresh_at k) (past b) 1 (ran_at k t p.machine (space ∷ [])) c ≡ end_of t b p) × Ended t b p
-        by (None d at) e known = (blank d at e ∙ end_none t b p d at e, ended_none t b p d at e)
-        by (Live z) e known =
+        by (Err why) e known = (blank why.reason why.at e ∙ end_none t b p why.reason why.at e, ended_none t b p why.reason why.at e)
+        by (Ok z) e known =
             let m = p.machine in
             let h : Bounded per_byte (ran_at k t p.machine (space ∷ [])) = known.small in
             end_live_as z e (fresh_at k) fresh_own (ran_at k t p.machine (space ∷ [])) (past b) 1 0 (space_ran l) (single_at b m l few) (bounded_out per_byte 0 (close_of t m) (rw (space_ran l) at h))
@@ -227,8 +245,8 @@ module _ (k : ℕ) (t : Own) (sized : SizedAt k t) (n b : ℕ) (p : Place) (o : 
       ended = end_fed k t sized (n + length xs) body (feed_of t false body xs p) (part.1.kept n b k short more o) short few (subst (KnownEnd k t) part.0 end)
 
       by : (c : Score) → p.score ≡ c → (ended_as k t body (fed_as k t body xs p) ≡ feed_of t true body xs p) × Kept t true body xs p
-      by (None d at) e = (ap (ended_as k t body) part.0 ∙ ended.0, kept_none t body xs p d at e true)
-      by (Live z) e =
+      by (Err why) e = (ap (ended_as k t body) part.0 ∙ ended.0, kept_none t body xs p why.reason why.at e true)
+      by (Ok z) e =
           let q = feed_open t body xs p z e in
           (ap (ended_as k t body) part.0 ∙ ended.0, kept_last t body xs p z e (run_known k t sized n b p o body xs short z e known) (subst (Ended t body) (sym q) ended.1))
 
@@ -258,16 +276,16 @@ module _ (t : Tables) (z : Sized t) (n b : ℕ) (body : ℕ) (more : b ≤ body)
   slate_fed_lem false fed ps o f = each_part 0 ps (slate_more n n b b fed ps (omega arith) (omega arith) o.most o).each f
 
 -- ---- each way through the code of one place
-module _ (f : Machine) (s : ℤ) (body bytes : ℕ) (r : Ran) where
-  pub settled_live : (m : Machine) (g z : ℤ) → r ≡ ran.Live m g → z ≡ sum_of s g → place m (Live z) ≡ settled_of f s body bytes r
+module _ (f : Machine) (s : ℤ) (body bytes : ℕ) (r : Ran Machine) where
+  pub settled_live : (m : Machine) (g z : ℤ) → r ≡ Ok (m, g) → z ≡ sum_of s g → place m (Ok z) ≡ settled_of f s body bytes r
   unfolding settled_of
   settled_live m g z e q = rw (e, q)
 
-  pub settled_dropped : (d : Reason) (at i : ℕ) → r ≡ ran.Dropped d at → i ≡ body - (bytes - at - 1) → place f (None d i) ≡ settled_of f s body bytes r
+  pub settled_dropped : (d : Reason) (at i : ℕ) → r ≡ Err (stop.Dropped d at) → i ≡ body - (bytes - at - 1) → place f (no_score d i) ≡ settled_of f s body bytes r
   unfolding settled_of
   settled_dropped d at i e q = rw (e, q)
 
-  pub settled_unfit : r ≡ ran.Unfit → place f (None NotInSlate 0) ≡ settled_of f s body bytes r
+  pub settled_unfit : r ≡ Err stop.Unfit → place f (no_score NotInSlate 0) ≡ settled_of f s body bytes r
   unfolding settled_of
   settled_unfit e = rw e
 
@@ -276,27 +294,27 @@ module _ (k : ℕ) (t : Own) (body : ℕ) (xs : List ℕ) (ps : List Place) (d :
   read : (q : Place) → (q ≡ fed_as k t body xs (slice_index_or ps k d)) × KnownFed k t xs (slice_index_or ps k d) → (q ≡ fed_as k t body xs (place_at k ps)) × KnownFed k t xs (place_at k ps)
   read q h = subst (λ (p : Place). (q ≡ fed_as k t body xs p) × KnownFed k t xs p) (place_read ps k d within) h
 
-  none_fed : (p : Place) (r : Reason) (at : ℕ) → p.score ≡ None r at → (place f p.score ≡ fed_as k t body xs p) × KnownFed k t xs p
+  none_fed : (p : Place) (r : Reason) (at : ℕ) → p.score ≡ no_score r at → (place f p.score ≡ fed_as k t body xs p) × KnownFed k t xs p
   unfolding settled_from
   none_fed p r at e = rw (e, fresh) (refl, tt)
 
-  pub way_none : (r : Reason) (at : ℕ) → (get_or ps k d).score ≡ None r at → (q : Place) → q ≡ place f (get_or ps k d).score → (q ≡ fed_as k t body xs (place_at k ps)) × KnownFed k t xs (place_at k ps)
+  pub way_none : (r : Reason) (at : ℕ) → (get_or ps k d).score ≡ no_score r at → (q : Place) → q ≡ place f (get_or ps k d).score → (q ≡ fed_as k t body xs (place_at k ps)) × KnownFed k t xs (place_at k ps)
   way_none r at e q i = let h = none_fed (slice_index_or ps k d) r at e in read q (i ∙ h.0, h.1)
 
-  live_fed : (p : Place) (z : ℤ) → p.score ≡ Live z → (r : Ran) (q : Place) → r ≡ ran_at k t p.machine xs → Bounded (per_byte * length xs) r → Weighed p.machine t.weights r → q ≡ settled_of f z body (length xs) r → (q ≡ fed_as k t body xs p) × KnownFed k t xs p
+  live_fed : (p : Place) (z : ℤ) → p.score ≡ Ok z → (r : Ran Machine) (q : Place) → r ≡ ran_at k t p.machine xs → Bounded (per_byte * length xs) r → Weighed p.machine t.weights r → q ≡ settled_of f z body (length xs) r → (q ≡ fed_as k t body xs p) × KnownFed k t xs p
   unfolding settled_from
   live_fed p z e r q a h v i =
       rw e (i ∙ (ap (λ (x : Machine). settled_of x z body (length xs) r) fresh ∙ ap (settled_of (fresh_at k) z body (length xs)) a), record { small = rw a at h; weighed = rw a at v })
 
-  pub way_live : (z : ℤ) → (get_or ps k d).score ≡ Live z → (r : Ran) (q : Place) → r ≡ ran_at k t (get_or ps k d).machine xs → Bounded (per_byte * length xs) r → Weighed (get_or ps k d).machine t.weights r → q ≡ settled_of f z body (length xs) r → (q ≡ fed_as k t body xs (place_at k ps)) × KnownFed k t xs (place_at k ps)
+  pub way_live : (z : ℤ) → (get_or ps k d).score ≡ Ok z → (r : Ran Machine) (q : Place) → r ≡ ran_at k t (get_or ps k d).machine xs → Bounded (per_byte * length xs) r → Weighed (get_or ps k d).machine t.weights r → q ≡ settled_of f z body (length xs) r → (q ≡ fed_as k t body xs (place_at k ps)) × KnownFed k t xs (place_at k ps)
   way_live z e r q a h v i = read q (live_fed (slice_index_or ps k d) z e r q a h v i)
 
 module _ (body : ℕ) (p : Place) (f : Machine) (fresh : f ≡ fresh_of p.machine) where
-  pub end_way_none : (d : Reason) (at : ℕ) → p.score ≡ None d at → (q : Place) → q ≡ place f p.score → q ≡ decoder_ended body p
+  pub end_way_none : (d : Reason) (at : ℕ) → p.score ≡ no_score d at → (q : Place) → q ≡ place f p.score → q ≡ decoder_ended body p
   unfolding settled_from
   end_way_none d at e q i = i ∙ rw (e, fresh)
 
-  pub end_way_live : (z : ℤ) → p.score ≡ Live z → (r : Ran) (q : Place) → r ≡ decoded_end p.machine → q ≡ settled_of f z body 0 r → q ≡ decoder_ended body p
+  pub end_way_live : (z : ℤ) → p.score ≡ Ok z → (r : Ran Machine) (q : Place) → r ≡ decoded_end p.machine → q ≡ settled_of f z body 0 r → q ≡ decoder_ended body p
   unfolding settled_from
   end_way_live z e r q a i = rw e (i ∙ (ap (λ (x : Machine). settled_of x z body 0 r) fresh ∙ ap (settled_of (fresh_of p.machine) z body 0) a))
 

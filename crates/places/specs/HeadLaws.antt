@@ -1,6 +1,6 @@
 -- What a place forgets of a head: over tables that meet the premises, two heads of plain bytes that end in the same two bytes
 -- leave a fresh place the same, whatever follows them.
-use Rattle.std.specs.Prelude.{◌≡◌, ℕ, suc, Bool, true, false, cond, List, [], ◌∷◌, ◌++◌, ℤ}
+use Rattle.std.specs.Prelude.{◌≡◌, ℕ, suc, Bool, true, false, cond, List, [], ◌∷◌, ◌++◌, ℤ, Ok, Err}
 use Rattle.std.proofs.Math.Path.{refl}
 use Rattle.std.proofs.Common.{sym, ap, ◌∙◌, arith, length-append}
 use Rattle.laws.specs.Each.{EachFrom, each_weaken}
@@ -8,7 +8,7 @@ use Rattle.laws.specs.Lists.{last as last_of}
 use Rattle.laws.specs.Memory.{all}
 use Rattle.laws.specs.Run.{Outcome, live, run, ends_at, run_append, ends_append}
 use Rattle.laws.proofs.Run.{ends_live}
-use Rattle.kinds.specs.HeadLaws.{machine_forgets}
+use Rattle.kinds.proofs.HeadLaws.{machine_forgets}
 use Rattle.kinds.specs.Kinds.{fresh_of, step_of}
 use Rattle.kinds.specs.Plain.{plain, Plain}
 use Rattle.tables.specs.Own.{Own, own_of}
@@ -20,8 +20,7 @@ use Rattle.places.specs.PlaceLaws.{part_none, feed_open}
 use Rattle.places.specs.Slate.{start_of, feed_from, feed_all}
 use Rattle.places.specs.SlateLaws.{joined, start_for}
 use Rattle.places.specs.declared.place.Place.{Place}
-use Rattle.places.specs.declared.place.Score.{Score}
-use Rattle.places.specs.declared.place.Score.TheVariants.{None, Live}
+use Rattle.places.specs.Score.{Score}
 
 -- the machine is the fresh one of its kind
 abbrev pub IsFresh : Place → Type 0
@@ -65,8 +64,8 @@ module _ (hs gs : List ℕ) (alike : EndAlike hs gs) (last : Bool) (body : ℕ) 
     part_forgets = by p.score refl
       where
         by : (c : Score) → p.score ≡ c → part_of t body (hs ++ rest) p ≡ part_of t body (gs ++ rest) p
-        by (None d at) e = part_none t body (hs ++ rest) p d at e ∙ sym (part_none t body (gs ++ rest) p d at e)
-        by (Live s) e =
+        by (Err why) e = part_none t body (hs ++ rest) p why.reason why.at e ∙ sym (part_none t body (gs ++ rest) p why.reason why.at e)
+        by (Ok s) e =
             sym (feed_open t body (hs ++ rest) p s e) ∙ (alike_as s ∙ feed_open t body (gs ++ rest) p s e)
           where
             alike_as : (s : ℤ) → place_as p.machine (byte_at body (hs ++ rest) (ends_at (step_of t) (live p.machine s) (hs ++ rest))) (run (step_of t) (live p.machine s) (hs ++ rest)) ≡ place_as p.machine (byte_at body (gs ++ rest) (ends_at (step_of t) (live p.machine s) (gs ++ rest))) (run (step_of t) (live p.machine s) (gs ++ rest))

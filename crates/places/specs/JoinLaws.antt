@@ -1,6 +1,6 @@
 -- Two parts, one after the other: feeding the second after the first is feeding the two joined. Of the bytes from the end of the
 -- head on those of the second part have not come when the first one is fed.
-use Rattle.std.specs.Prelude.{◌≡◌, ℕ, suc, ◌+◌, ◌-◌, Bool, true, false, List, [], ◌∷◌, ◌++◌, length, ℤ}
+use Rattle.std.specs.Prelude.{◌≡◌, ℕ, suc, ◌+◌, ◌-◌, Bool, true, false, List, [], ◌∷◌, ◌++◌, length, ℤ, Ok, Err}
 use Rattle.std.proofs.Math.Path.{refl}
 use Rattle.std.proofs.Common.{sym, ap, ◌∙◌, arith}
 use Rattle.std.proofs.Math.ListN.{length-append}
@@ -17,14 +17,13 @@ use Rattle.places.specs.PlaceLaws.{part_none, feed_open}
 use Rattle.places.specs.Slate.{feed_from, feed_all}
 use Rattle.places.specs.SlateLaws.{joined}
 use Rattle.places.specs.declared.place.Place.{Place}
-use Rattle.places.specs.declared.place.Score.{Score}
-use Rattle.places.specs.declared.place.Score.TheVariants.{None, Live}
+use Rattle.places.specs.Score.{Score, no_score}
 
 -- ---- one place
 -- which machine of a kind an outcome came of does not matter to the place
 same_kind : (m n : Machine) → Alike m n → (at : ℕ) (o : Outcome Machine) → place_as n at o ≡ place_as m at o
 unfolding place_as
-same_kind m n a at (none d) = ap (λ (k : Machine). place k (None d at)) a
+same_kind m n a at (none d) = ap (λ (k : Machine). place k (no_score d at)) a
 same_kind m n a at (live k s) = refl
 
 module _ (t : Own) (body : ℕ) (xs ys : List ℕ) where
@@ -43,9 +42,9 @@ module _ (t : Own) (body : ℕ) (xs ys : List ℕ) where
   part_joined p = by p.score refl
     where
       by : (c : Score) → p.score ≡ c → part_of t body ys (part_of t (body - length ys) xs p) ≡ part_of t body (xs ++ ys) p
-      by (None d at) e =
-          ap (part_of t body ys) (part_none t (body - length ys) xs p d at e) ∙ (part_none t body ys p d at e ∙ sym (part_none t body (xs ++ ys) p d at e))
-      by (Live s) e =
+      by (Err why) e =
+          ap (part_of t body ys) (part_none t (body - length ys) xs p why.reason why.at e) ∙ (part_none t body ys p why.reason why.at e ∙ sym (part_none t body (xs ++ ys) p why.reason why.at e))
+      by (Ok s) e =
           let m = p.machine in
           let o = live p.machine s in
           ap (part_of t body ys) (sym (feed_open t (body - length ys) xs p s e)) ∙ (second m s (run (step_of t) o xs) (run_alike t m s xs) refl ∙ (joined_as m s ∙ feed_open t body (xs ++ ys) p s e))

@@ -7,6 +7,7 @@ pub mod Order
 pub mod OrderLaws
 pub mod Place
 pub mod PlaceLaws
+pub mod Score
 pub mod Slate
 pub mod SlateLaws
 pub mod Steps

@@ -1,6 +1,6 @@
 -- Which places a state in order can hold: after n bytes, `body` of them from the end of the head on, the stream closed or not, the
 -- places fed already or not.
-use Rattle.std.specs.Prelude.{◌≡◌, ℕ, ◌+◌, ◌*◌, ◌≤◌, Bool, true, false, cond, not, ◌&&◌, ◌||◌, List, pos, ◌==◌, nat_le, unsigned_abs}
+use Rattle.std.specs.Prelude.{◌≡◌, ℕ, ◌+◌, ◌*◌, ◌≤◌, Bool, true, false, cond, not, ◌&&◌, ◌||◌, List, pos, ◌==◌, nat_le, unsigned_abs, Ok, Err}
 use Rattle.laws.specs.Each.{each_b, EachFrom}
 use Rattle.laws.specs.Limit.{limit}
 use Rattle.laws.specs.declared.Reason.{Reason}
@@ -11,8 +11,7 @@ use Rattle.kinds.specs.Kinds.{place_number, is_single, fresh_of}
 use Rattle.kinds.specs.Sound.{reach_of, SoundFor, sound_b}
 use Rattle.kinds.specs.declared.machine.Machine.{Machine}
 use Rattle.places.specs.declared.place.Place.{Place}
-use Rattle.places.specs.declared.place.Score.{Score}
-use Rattle.places.specs.declared.place.Score.TheVariants.{None, Live}
+use Rattle.places.specs.Score.{Score}
 
 -- ---- one place
 -- so many bytes, and where the stream is closed one more, the closing space
@@ -32,16 +31,16 @@ dropped_b body closed fed k NotInSlate at = at == 0
 -- fresh where the score is none; else a score that no bound of so many bytes excludes
 module _ (reach body : ℕ) (closed fed : Bool) (k : ℕ) (m : Machine) where
   abbrev pub ScoredFor : Score → Type 0
-  ScoredFor (None d at) = (m ≡ fresh_of m) × (dropped_b body closed fed k d at ≡ true)
-  ScoredFor (Live s) = unsigned_abs s ≤ per_byte * reach
+  ScoredFor (Err why) = (m ≡ fresh_of m) × (dropped_b body closed fed k why.reason why.at ≡ true)
+  ScoredFor (Ok s) = unsigned_abs s ≤ per_byte * reach
 
   unfoldable pub scored_b : Score → Bool
-  scored_b (None d at) = fresh_b m && dropped_b body closed fed k d at
-  scored_b (Live s) = nat_le (unsigned_abs s) (per_byte * reach)
+  scored_b (Err why) = fresh_b m && dropped_b body closed fed k why.reason why.at
+  scored_b (Ok s) = nat_le (unsigned_abs s) (per_byte * reach)
 
 abbrev pub ZeroOrNone : Score → Type 0
-ZeroOrNone (None d at) = Unit {0}
-ZeroOrNone (Live s) = s ≡ pos 0
+ZeroOrNone (Err why) = Unit {0}
+ZeroOrNone (Ok s) = s ≡ pos 0
 
 -- until a trigger is met, every place is fresh and its score 0 or none
 abbrev pub FedOr : Bool → Place → Type 0
@@ -61,8 +60,8 @@ pub record SlateFor (n body : ℕ) (closed fed : Bool) (ps : List Place) : Type 
 
 -- ---- the test
 unfoldable pub zero_or_none_b : Score → Bool
-zero_or_none_b (None d at) = true
-zero_or_none_b (Live s) = unsigned_abs s == 0
+zero_or_none_b (Err why) = true
+zero_or_none_b (Ok s) = unsigned_abs s == 0
 
 unfoldable pub unfed_b : Place → Bool
 unfed_b p = fresh_b p.machine && zero_or_none_b p.score

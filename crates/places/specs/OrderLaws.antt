@@ -1,5 +1,5 @@
 -- The test of the places decides, and places stay in order.
-use Rattle.std.specs.Prelude.{◌≡◌, ℕ, ◌+◌, ◌-◌, ◌*◌, ◌≤◌, Bool, true, false, cond, not, ◌&&◌, ◌||◌, leb, List, length, ℤ, pos, negsuc, ◌==◌, nat_eq, nat_le, unsigned_abs}
+use Rattle.std.specs.Prelude.{◌≡◌, ℕ, ◌+◌, ◌-◌, ◌*◌, ◌≤◌, Bool, true, false, cond, not, ◌&&◌, ◌||◌, leb, List, length, ℤ, pos, negsuc, ◌==◌, nat_eq, nat_le, unsigned_abs, Ok, Err, eqb, Option, Some, None}
 use Rattle.std.proofs.Math.Path.{refl, sym}
 use Rattle.std.proofs.Common.{ap, subst, ◌∙◌, mul-le-mul_left}
 use Rattle.std.proofs.Math.Bool.{and-false, and-true, and_comm}
@@ -23,12 +23,13 @@ use Rattle.iso2022jp.specs.Iso2022Jp as iso2022jp
 use Rattle.shift_jis.specs.ShiftJis as shiftJis
 use Rattle.utf8.specs.Utf8 as utf-8
 use Rattle.records.specs.Fresh.{fresh_b}
-use Rattle.records.specs.FreshLaws.{fresh_true, true_fresh}
+use Rattle.records.proofs.FreshLaws.{fresh_true, true_fresh}
 use Rattle.kinds.specs.KindLaws.{Alike, fresh_alike, alike_place, alike_reach, reach_open, run_alike, close_alike}
 use Rattle.kinds.specs.Kinds.{place_number, is_single, fresh_of, step_of, close_of, WeighedIn}
 use Rattle.kinds.specs.KindsLaws.{utf_8_still, iso2022jp_still, shift_jis_still}
 use Rattle.kinds.specs.Reasons.{byte_reason, end_reason}
 use Rattle.kinds.specs.ReasonsLaws.{run_reason, close_reason}
+use Rattle.kinds.specs.Kind.{Picked}
 use Rattle.kinds.specs.Sound.{takes_space, reach_of, SoundFor, sound_b}
 use Rattle.kinds.specs.SoundLaws.{sound_true, true_sound, sound_more, fresh_sound, run_sound, close_sound}
 use Rattle.tables.specs.Own.{Own}
@@ -40,20 +41,19 @@ use Rattle.places.specs.Steps.{asked_if, asked_of, answer_of}
 use Rattle.places.specs.declared.order.Asked.{Asked}
 use Rattle.places.specs.declared.order.Asked.TheVariants as asked
 use Rattle.places.specs.declared.place.Place.{Place}
-use Rattle.places.specs.declared.place.Score.{Score}
-use Rattle.places.specs.declared.place.Score.TheVariants.{None, Live}
+use Rattle.places.specs.Score.{Score, no_score}
 
 -- ---- the test decides, in both directions
 module _ (reach body : ℕ) (closed fed : Bool) (k : ℕ) (m : Machine) where
   scored_true : (s : Score) → scored_b reach body closed fed k m s ≡ true → ScoredFor reach body closed fed k m s
   unfolding scored_b
-  scored_true (None d at) e = let h = both _ _ e in (fresh_true m h.0, h.1)
-  scored_true (Live s) e = leb-true _ _ e
+  scored_true (Err why) e = let h = both _ _ e in (fresh_true m h.0, h.1)
+  scored_true (Ok s) e = leb-true _ _ e
 
   true_scored : (s : Score) → ScoredFor reach body closed fed k m s → scored_b reach body closed fed k m s ≡ true
   unfolding scored_b
-  true_scored (None d at) e = rw (true_fresh m e.0, e.1)
-  true_scored (Live s) e = le-leb _ _ e
+  true_scored (Err why) e = rw (true_fresh m e.0, e.1)
+  true_scored (Ok s) e = le-leb _ _ e
 
 abs_zero : (z : ℤ) → unsigned_abs z ≡ 0 → z ≡ pos 0
 abs_zero (pos n) e = ap pos e
@@ -61,13 +61,13 @@ abs_zero (negsuc n) e = absurd (omega (arith, e))
 
 zero_true : (s : Score) → zero_or_none_b s ≡ true → ZeroOrNone s
 unfolding zero_or_none_b
-zero_true (None d at) e = tt
-zero_true (Live s) e = abs_zero s (eqb-true _ _ e)
+zero_true (Err why) e = tt
+zero_true (Ok s) e = abs_zero s (eqb-true _ _ e)
 
 true_zero : (s : Score) → ZeroOrNone s → zero_or_none_b s ≡ true
 unfolding zero_or_none_b
-true_zero (None d at) e = refl
-true_zero (Live s) e = rw e
+true_zero (Err why) e = refl
+true_zero (Ok s) e = rw e
 
 fed_true : (fed : Bool) (p : Place) → (fed || unfed_b p) ≡ true → FedOr fed p
 unfolding unfed_b
@@ -113,16 +113,18 @@ fresh_then n reach m true e =
     rw (true_sound n reach m h)
 fresh_then n reach m false e = and-false (sound_b n reach m)
 
--- the reach of a machine that takes the closing space, and of one that does not
-pub reach_space : (m : Machine) (n : ℕ) (closed : Bool) → takes_space m ≡ true → reach_of m n closed ≡ spaced_of n closed
+-- the reach of a machine whose kind takes the closing space, or does not
+pub reach_kind : (m : Machine) (space : Bool) (n : ℕ) (closed : Bool) → takes_space m ≡ space → reach_of m n closed ≡ cond (closed && space) (n + 1) n
 unfolding reach_of
-reach_space m n true e = rw e
-reach_space m n false e = refl
+reach_kind m space n closed e = rw e
 
-pub reach_plain : (m : Machine) (n : ℕ) (closed : Bool) → takes_space m ≡ false → reach_of m n closed ≡ n
-unfolding reach_of
-reach_plain m n true e = rw e
-reach_plain m n false e = refl
+-- whether the machine is the kind's
+module _ {S : Type 0} (whole : S → Machine) (k : ℕ) (machine : Machine) (r : Option S) where
+  pub picked_other : Picked whole k machine r → r ≡ None → eqb (place_number machine) k ≡ false
+  picked_other h e = rw e at h
+
+  pub picked_own : (m : S) → Picked whole k machine r → r ≡ Some m → machine ≡ whole m
+  picked_own m h e = rw e at h
 
 module _ (n body : ℕ) (closed fed : Bool) (k : ℕ) (p : Place) where
   pub place_other : nat_eq (place_number p.machine) k ≡ false → false ≡ place_b n body closed fed k p
@@ -131,7 +133,7 @@ module _ (n body : ℕ) (closed fed : Bool) (k : ℕ) (p : Place) where
 
   module _ (e : place_number p.machine ≡ k) where
     -- without a score: fresh, with a reason and a place that it can have, and nothing else is asked
-    place_none : (d : Reason) (at : ℕ) → p.score ≡ None d at → (fresh_b p.machine && dropped_b body closed fed k d at) ≡ place_b n body closed fed k p
+    place_none : (d : Reason) (at : ℕ) → p.score ≡ no_score d at → (fresh_b p.machine && dropped_b body closed fed k d at) ≡ place_b n body closed fed k p
     unfolding place_b scored_b unfed_b zero_or_none_b
     place_none d at q = rw (eq-eqb _ _ e, q) (by fed (fresh_b p.machine) (dropped_b body closed fed k d at) refl)
       where
@@ -143,7 +145,7 @@ module _ (n body : ℕ) (closed fed : Bool) (k : ℕ) (p : Place) where
         by true false c h = sym (and-false (sound_b n (reach_of p.machine n closed) p.machine))
         by false false c h = sym (and-false (sound_b n (reach_of p.machine n closed) p.machine))
 
-    module _ (s : ℤ) (q : p.score ≡ Live s) where
+    module _ (s : ℤ) (q : p.score ≡ Ok s) where
       -- not fed: fresh with the score 0, and nothing else is asked
       place_unfed : fed ≡ false → (unsigned_abs s == 0 && fresh_b p.machine) ≡ place_b n body closed fed k p
       unfolding place_b scored_b unfed_b zero_or_none_b
@@ -170,17 +172,17 @@ module _ (n body : ℕ) (closed fed : Bool) (k : ℕ) (p : Place) where
     answer_if true a = refl
     answer_if false a = refl
 
-    none_asked : (d : Reason) (at : ℕ) → p.score ≡ None d at → answer_of (asked_if (dropped_b body closed fed k d at) asked.Fresh) (sound_b n reach m) (fresh_b m) ≡ place_b n body closed fed k p
+    none_asked : (d : Reason) (at : ℕ) → p.score ≡ no_score d at → answer_of (asked_if (dropped_b body closed fed k d at) asked.Fresh) (sound_b n reach m) (fresh_b m) ≡ place_b n body closed fed k p
     none_asked d at q = answer_if (dropped_b body closed fed k d at) asked.Fresh ∙ (and_comm (dropped_b body closed fed k d at) (fresh_b m) ∙ (ap (λ (x : Machine). fresh_b x && dropped_b body closed fed k d at) (sym e) ∙ place_none number d at q))
 
-    live_asked : (s : ℤ) → p.score ≡ Live s → (f : Bool) → fed ≡ f → answer_of (cond f (asked_if (nat_le (unsigned_abs s) (per_byte * reach)) asked.Sound) (asked_if (unsigned_abs s == 0) asked.Fresh)) (sound_b n reach m) (fresh_b m) ≡ place_b n body closed fed k p
+    live_asked : (s : ℤ) → p.score ≡ Ok s → (f : Bool) → fed ≡ f → answer_of (cond f (asked_if (nat_le (unsigned_abs s) (per_byte * reach)) asked.Sound) (asked_if (unsigned_abs s == 0) asked.Fresh)) (sound_b n reach m) (fresh_b m) ≡ place_b n body closed fed k p
     live_asked s q true u =
         answer_if (nat_le (unsigned_abs s) (per_byte * reach)) asked.Sound ∙ (ap (λ (x : ℕ). nat_le (unsigned_abs s) (per_byte * x) && sound_b n x m) (sym far) ∙ (ap (λ (x : Machine). nat_le (unsigned_abs s) (per_byte * reach_of x n closed) && sound_b n (reach_of x n closed) x) (sym e) ∙ place_fed number s q u))
     live_asked s q false u = answer_if (unsigned_abs s == 0) asked.Fresh ∙ (ap (λ (x : Machine). (unsigned_abs s == 0) && fresh_b x) (sym e) ∙ place_unfed number s q u)
 
     place_asked : (c : Score) → p.score ≡ c → answer_of (asked_of reach body closed fed k c) (sound_b n reach m) (fresh_b m) ≡ place_b n body closed fed k p
-    place_asked (None d at) q = none_asked d at q
-    place_asked (Live s) q = live_asked s q fed refl
+    place_asked (Err why) q = none_asked why.reason why.at q
+    place_asked (Ok s) q = live_asked s q fed refl
 
     pub way_asked : (a : Asked) → a ≡ asked_of reach body closed fed k p.score → (r : Bool) → r ≡ answer_of a (sound_b n reach m) (fresh_b m) → r ≡ place_b n body closed fed k p
     way_asked a q r i = i ∙ (ap (λ (x : Asked). answer_of x (sound_b n reach m) (fresh_b m)) q ∙ place_asked p.score refl)
@@ -251,8 +253,8 @@ end_dropped body (ArabicFrench m) = le-leb (body + 1) (body + 1) (omega arith)
 end_dropped body (ShiftJis m) = eq-eqb body body refl
 
 pub scored_more : (a n b c : ℕ) (fed closed : Bool) (k : ℕ) (m : Machine) (s : Score) → a ≤ n → b ≤ c → ScoredFor a b false fed k m s → ScoredFor n c closed true k m s
-scored_more a n b c fed closed k m (None d at) h l o = (o.0, dropped_more b c fed closed k d at l o.1)
-scored_more a n b c fed closed k m (Live s) h l o = let q : per_byte * a ≤ per_byte * n = mul-le-mul_left per_byte h in omega (arith, o)
+scored_more a n b c fed closed k m (Err why) h l o = (o.0, dropped_more b c fed closed k why.reason why.at l o.1)
+scored_more a n b c fed closed k m (Ok s) h l o = let q : per_byte * a ≤ per_byte * n = mul-le-mul_left per_byte h in omega (arith, o)
 
 pub reach_more : (m : Machine) (n k : ℕ) (closed : Bool) → n ≤ k → n ≤ reach_of m k closed
 unfolding reach_of
@@ -391,8 +393,8 @@ module _ (t : Own) where
 
   end_from_lem : (n body k : ℕ) (p : Place) → PlaceFor n body false true k p → BoundedOut per_byte (close_of t p.machine) → (c : Score) → p.score ≡ c → PlaceFor n body true true k (end_from t body p c)
   unfolding end_from
-  end_from_lem n body k p o q (None d at) e = end_passed n body k p o
-  end_from_lem n body k p o q (Live z) e =
+  end_from_lem n body k p o q (Err why) e = end_passed n body k p o
+  end_from_lem n body k p o q (Ok z) e =
       let m = p.machine in
       let c = close_of t p.machine in
       let sound : SoundFor n n p.machine = rw (reach_open p.machine n) at o.sound in

@@ -1,5 +1,5 @@
 -- All nine places: what a start gives, and what a part of a chunk makes of them.
-use Rattle.std.specs.Prelude.{ℕ, suc, ◌/◌, ◌%◌, Bool, cond, List, [], ◌∷◌, pos, ◌==◌, slice_index_or}
+use Rattle.std.specs.Prelude.{ℕ, suc, ◌/◌, ◌%◌, Bool, cond, List, [], ◌∷◌, pos, ◌==◌, slice_index_or, Ok}
 use Rattle.laws.specs.declared.Reason.TheVariants.{NotInSlate}
 use Rattle.big5.specs.Scoring as big5
 use Rattle.euckr.specs.Scoring as euckr
@@ -15,13 +15,12 @@ use Rattle.tables.specs.Tables.{Tables}
 use Rattle.kinds.specs.declared.machine.Machine.TheVariants.{Utf8, Iso2022Jp, EucKr, Big5, Caseless, Logical, Visual, ArabicFrench, ShiftJis}
 use Rattle.places.specs.Place.{place, feed_of}
 use Rattle.places.specs.declared.place.Place.{Place}
-use Rattle.places.specs.declared.place.Score.{Score}
-use Rattle.places.specs.declared.place.Score.TheVariants.{None, Live}
+use Rattle.places.specs.Score.{Score, no_score}
 
 -- ---- one of them
 -- the place of a number; where there is none, one without a score
 abbrev pub nowhere : Place
-nowhere = place (Utf8 utf-8.fresh) (None NotInSlate 0)
+nowhere = place (Utf8 utf-8.fresh) (no_score NotInSlate 0)
 
 abbrev pub place_at : ℕ → List Place → Place
 place_at k ps = slice_index_or ps k nowhere
@@ -29,7 +28,7 @@ place_at k ps = slice_index_or ps k nowhere
 -- ---- a start
 -- a place takes part where the bit that is worth `unit` is set; its score starts at 0
 abbrev pub taken_of : ℕ → ℕ → Score
-taken_of bits unit = cond (bits / unit % 2 == 1) (Live (pos 0)) (None NotInSlate 0)
+taken_of bits unit = cond (bits / unit % 2 == 1) (Ok (pos 0)) (no_score NotInSlate 0)
 
 -- fresh machines, each in its place
 unfoldable pub start_of : ℕ → List Place

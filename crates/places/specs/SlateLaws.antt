@@ -1,5 +1,5 @@
 -- Laws of the slate, for its code and its callers.
-use Rattle.std.specs.Prelude.{◌≡◌, ℕ, zero, suc, ◌+◌, ◌/◌, ◌%◌, ◌<◌, ◌≤◌, Bool, true, false, cond, List, [], ◌∷◌, length, drop, pos, ◌==◌, nat_le, slice_index_or, refl}
+use Rattle.std.specs.Prelude.{◌≡◌, ℕ, zero, suc, ◌+◌, ◌/◌, ◌%◌, ◌<◌, ◌≤◌, Bool, true, false, cond, List, [], ◌∷◌, length, drop, pos, ◌==◌, nat_le, slice_index_or, refl, Ok, Err}
 use Rattle.std.proofs.Math.Path.{sym, subst}
 use Rattle.std.proofs.Common.{ap, ◌∙◌, le_of_suc-le-suc, not-suc-le-zero, drop-cons, le-leb}
 use Rattle.std.proofs.Math.Bool.{and-false}
@@ -34,8 +34,7 @@ use Rattle.places.specs.Place.{place, feed_of}
 use Rattle.places.specs.PlaceLaws.{feed_nil}
 use Rattle.places.specs.Slate.{place_at, start_of, feed_from, feed_all}
 use Rattle.places.specs.declared.place.Place.{Place}
-use Rattle.places.specs.declared.place.Score.{Score}
-use Rattle.places.specs.declared.place.Score.TheVariants.{None, Live}
+use Rattle.places.specs.Score.{Score, no_score}
 
 -- the place that is read, whatever would be read where there is none
 pub place_read : (ps : List Place) (k : ℕ) (d : Place) → k < length ps → slice_index_or ps k d ≡ place_at k ps
@@ -44,16 +43,16 @@ place_read (p ∷ ps) zero d h = refl
 place_read (p ∷ ps) (suc k) d h = place_read ps k d (le_of_suc-le-suc h)
 
 -- ---- a start is in order
-taken_scored : (k : ℕ) (m : Machine) (t : Bool) → m ≡ fresh_of m → ScoredFor 0 0 false false k m (cond t (Live (pos 0)) (None NotInSlate 0))
+taken_scored : (k : ℕ) (m : Machine) (t : Bool) → m ≡ fresh_of m → ScoredFor 0 0 false false k m (cond t (Ok (pos 0)) (no_score NotInSlate 0))
 unfolding dropped_b
 taken_scored k m true e = omega arith
 taken_scored k m false e = (e, refl)
 
-taken_zero : (t : Bool) → ZeroOrNone (cond t (Live (pos 0)) (None NotInSlate 0))
+taken_zero : (t : Bool) → ZeroOrNone (cond t (Ok (pos 0)) (no_score NotInSlate 0))
 taken_zero true = refl
 taken_zero false = tt
 
-begun : (k : ℕ) (m : Machine) (t : Bool) → place_number m ≡ k → m ≡ fresh_of m → PlaceFor 0 0 false false k (place m (cond t (Live (pos 0)) (None NotInSlate 0)))
+begun : (k : ℕ) (m : Machine) (t : Bool) → place_number m ≡ k → m ≡ fresh_of m → PlaceFor 0 0 false false k (place m (cond t (Ok (pos 0)) (no_score NotInSlate 0)))
 begun k m t e f =
     record {
       kind = e;
@@ -86,12 +85,12 @@ slate_more n m b c fed ps h l most o = record { most = most; each = each_weaken 
 
 -- ---- places that were not fed yet stay so, whatever the stream has
 zero_scored : (n b c : ℕ) (closed fed : Bool) (k : ℕ) (m : Machine) (s : Score) → m ≡ fresh_of m → ZeroOrNone s → ScoredFor 0 b false false k m s → ScoredFor n c closed fed k m s
-zero_scored n b c closed fed k m (None d at) e z o = (e, dropped_unfed b c false closed fed k d at o.1)
-zero_scored n b c closed fed k m (Live s) e z o = rw z (omega arith)
+zero_scored n b c closed fed k m (Err why) e z o = (e, dropped_unfed b c false closed fed k why.reason why.at o.1)
+zero_scored n b c closed fed k m (Ok s) e z o = rw z (omega arith)
 
 unscored : (n b : ℕ) (k : ℕ) (m : Machine) (s : Score) → ZeroOrNone s → ScoredFor n b false false k m s → ScoredFor 0 b false false k m s
-unscored n b k m (None d at) z o = o
-unscored n b k m (Live s) z o = rw z (omega arith)
+unscored n b k m (Err why) z o = o
+unscored n b k m (Ok s) z o = rw z (omega arith)
 
 unfed_for : (n m b c : ℕ) (closed fed : Bool) (k : ℕ) (p : Place) → FedOr fed p → PlaceFor n b false false k p → PlaceFor m c closed fed k p
 unfed_for n m b c closed fed k p f o =

@@ -1,5 +1,5 @@
 // Which places a state in order can hold.
-ghost use Rattle.std.specs.Prelude.{◌≡◌, ◌+◌, ◌*◌, ◌≤◌, ◌==◌, nat_le, unsigned_abs};
+ghost use Rattle.std.specs.Prelude.{◌≡◌, ◌+◌, ◌*◌, ◌≤◌, ◌==◌, ◌&&◌, cond, nat_le, unsigned_abs};
 ghost use Rattle.laws.specs.Limit.{limit};
 ghost use Rattle.weights.specs.Weights.{per_byte};
 ghost use Rattle.kinds.specs.Kinds.{is_single};
@@ -8,23 +8,21 @@ ghost use Rattle.places.specs.Steps.{asked_if, asked_of};
 
 use crate::place;
 use crate::place::{Place, Score, Slate};
-use kinds::machine::Machine;
+use arabic_french::ArabicFrench;
+use big5::Big5;
+use caseless_script::Caseless;
+use euckr::EucKr;
+use iso2022jp::Iso2022Jp;
+use kinds::machine::Kind;
 use laws::Reason;
-use records::{fresh, sound};
+use logical::Logical;
+use records::Record;
+use shift_jis::ShiftJis;
+use utf8::Utf8;
+use visual::Visual;
 
 // What one byte adds to a score at most.
 const PER_BYTE: u64 = 10_737_418_240;
-
-// How many bytes there are with the closing space, where the stream is closed.
-fn with_space(bytes: u64, closed: bool) -> u64
-    requires { bytes ≤ limit }
-    ensures { result ≡ spaced_of bytes closed }
-{
-    if closed {
-        return bytes + 1;
-    }
-    bytes
-}
 
 // Whether a byte's place is within so many bytes, or where the stream is closed at its closing space.
 fn is_within(at: u64, body: u64, closed: bool) -> bool
@@ -74,7 +72,7 @@ fn is_zero(n: i64) -> bool
 
 // What is asked of the record of a place by its score: that no bound excludes it, that it is fresh (which no bound excludes), or
 // nothing, since no place can have the score.
-#[derive(Clone, Copy)]
+#[derive(Clone, Copy, PartialEq, Eq)]
 pub(crate) enum Asked {
     Sound,
     Fresh,
@@ -96,10 +94,11 @@ fn ask(score: Score, k: usize, reach: u64, body: u64, closed: bool, fed: bool) -
     ensures { result ≡ asked_of reach body closed fed k score }
 {
     match score {
-        Score::None(reason, at) => {
-            asked_if(is_dropped(reason, at, k, body, closed, fed), Asked::Fresh)
-        }
-        Score::Live(n) => {
+        Err(why) => asked_if(
+            is_dropped(why.reason, why.at, k, body, closed, fed),
+            Asked::Fresh,
+        ),
+        Ok(n) => {
             if fed {
                 return asked_if(is_small(n, reach), Asked::Sound);
             }
@@ -108,180 +107,31 @@ fn ask(score: Score, k: usize, reach: u64, body: u64, closed: bool, fed: bool) -
     }
 }
 
-// Whether a place can stand where its kind does, after so many bytes, with the closing space so many, fed already or not: a
-// function for each kind.
-fn is_in_order_utf8(place: Place, bytes: u64, body: u64, closed: bool, fed: bool) -> bool
+// How many bytes a machine of the kind has seen at most: the closing space among them where it takes it.
+fn reach<K: Kind>(bytes: u64, closed: bool) -> u64
     requires { bytes ≤ limit }
-    ensures { result ≡ place_b bytes body closed fed 0 place }
+    ensures { result ≡ cond (closed && K.TAKES_SPACE) (bytes + 1) bytes }
 {
-    let machine = place.machine;
-    let score = place.score;
-    let Machine::Utf8(m) = machine else {
-        return false;
-    };
-    match ask(score, 0, bytes, body, closed, fed) {
-        Asked::Sound => m.is_sound(),
-        Asked::Fresh => fresh::is_fresh_utf8(m),
-        Asked::Never => false,
+    if closed & K::TAKES_SPACE {
+        return bytes + 1;
     }
+    bytes
 }
 
-fn is_in_order_iso2022jp(place: Place, bytes: u64, body: u64, closed: bool, fed: bool) -> bool
+// Whether a place can stand where its kind does, after so many bytes, fed already or not.
+fn is_in_order<K: Record>(place: Place, bytes: u64, body: u64, closed: bool, fed: bool) -> bool
     requires { bytes ≤ limit }
-    ensures { result ≡ place_b bytes body closed fed 1 place }
+    ensures { result ≡ place_b bytes body closed fed K.PLACE place }
 {
     let machine = place.machine;
     let score = place.score;
-    let Machine::Iso2022Jp(m) = machine else {
+    let Some(m) = K::pick(machine) else {
         return false;
     };
-    match ask(score, 1, bytes, body, closed, fed) {
-        Asked::Sound => m.is_sound(),
-        Asked::Fresh => fresh::is_fresh_iso2022jp(m),
-        Asked::Never => false,
-    }
-}
-
-fn is_in_order_euckr(place: Place, bytes: u64, body: u64, closed: bool, fed: bool) -> bool
-    requires { bytes ≤ limit }
-    ensures { result ≡ place_b bytes body closed fed 2 place }
-{
-    let machine = place.machine;
-    let score = place.score;
-    let Machine::EucKr(m) = machine else {
-        return false;
-    };
-    match ask(score, 2, bytes, body, closed, fed) {
-        Asked::Sound => m.is_sound_for(bytes),
-        Asked::Fresh => fresh::is_fresh_euckr(m),
-        Asked::Never => false,
-    }
-}
-
-fn is_in_order_big5(place: Place, bytes: u64, body: u64, closed: bool, fed: bool) -> bool
-    requires { bytes ≤ limit }
-    ensures { result ≡ place_b bytes body closed fed 3 place }
-{
-    let machine = place.machine;
-    let score = place.score;
-    let Machine::Big5(m) = machine else {
-        return false;
-    };
-    match ask(score, 3, bytes, body, closed, fed) {
-        Asked::Sound => m.is_sound_for(bytes),
-        Asked::Fresh => fresh::is_fresh_big5(m),
-        Asked::Never => false,
-    }
-}
-
-fn is_in_order_caseless(
-    place: Place,
-    bytes: u64,
-    spaced: u64,
-    body: u64,
-    closed: bool,
-    fed: bool,
-) -> bool
-    requires bytes_le_limit { bytes ≤ limit }
-    requires spaced_value { spaced ≡ spaced_of bytes closed }
-    ensures { result ≡ place_b bytes body closed fed 4 place }
-{
-    let machine = place.machine;
-    let score = place.score;
-    let Machine::Caseless(m) = machine else {
-        return false;
-    };
-    match ask(score, 4, spaced, body, closed, fed) {
-        Asked::Sound => sound::is_sound_caseless(m, bytes, spaced),
-        Asked::Fresh => fresh::is_fresh_caseless(m),
-        Asked::Never => false,
-    }
-}
-
-fn is_in_order_logical(
-    place: Place,
-    bytes: u64,
-    spaced: u64,
-    body: u64,
-    closed: bool,
-    fed: bool,
-) -> bool
-    requires bytes_le_limit { bytes ≤ limit }
-    requires spaced_value { spaced ≡ spaced_of bytes closed }
-    ensures { result ≡ place_b bytes body closed fed 5 place }
-{
-    let machine = place.machine;
-    let score = place.score;
-    let Machine::Logical(m) = machine else {
-        return false;
-    };
-    match ask(score, 5, spaced, body, closed, fed) {
-        Asked::Sound => sound::is_sound_logical(m, bytes, spaced),
-        Asked::Fresh => fresh::is_fresh_logical(m),
-        Asked::Never => false,
-    }
-}
-
-fn is_in_order_visual(
-    place: Place,
-    bytes: u64,
-    spaced: u64,
-    body: u64,
-    closed: bool,
-    fed: bool,
-) -> bool
-    requires bytes_le_limit { bytes ≤ limit }
-    requires spaced_value { spaced ≡ spaced_of bytes closed }
-    ensures { result ≡ place_b bytes body closed fed 6 place }
-{
-    let machine = place.machine;
-    let score = place.score;
-    let Machine::Visual(m) = machine else {
-        return false;
-    };
-    match ask(score, 6, spaced, body, closed, fed) {
-        Asked::Sound => sound::is_sound_visual(m, bytes, spaced),
-        Asked::Fresh => fresh::is_fresh_visual(m),
-        Asked::Never => false,
-    }
-}
-
-fn is_in_order_arabic_french(
-    place: Place,
-    bytes: u64,
-    spaced: u64,
-    body: u64,
-    closed: bool,
-    fed: bool,
-) -> bool
-    requires bytes_le_limit { bytes ≤ limit }
-    requires spaced_value { spaced ≡ spaced_of bytes closed }
-    ensures { result ≡ place_b bytes body closed fed 7 place }
-{
-    let machine = place.machine;
-    let score = place.score;
-    let Machine::ArabicFrench(m) = machine else {
-        return false;
-    };
-    match ask(score, 7, spaced, body, closed, fed) {
-        Asked::Sound => sound::is_sound_arabic_french(m, bytes, spaced),
-        Asked::Fresh => fresh::is_fresh_arabic_french(m),
-        Asked::Never => false,
-    }
-}
-
-fn is_in_order_shift_jis(place: Place, bytes: u64, body: u64, closed: bool, fed: bool) -> bool
-    requires { bytes ≤ limit }
-    ensures { result ≡ place_b bytes body closed fed 8 place }
-{
-    let machine = place.machine;
-    let score = place.score;
-    let Machine::ShiftJis(m) = machine else {
-        return false;
-    };
-    match ask(score, 8, bytes, body, closed, fed) {
-        Asked::Sound => m.is_sound(),
-        Asked::Fresh => fresh::is_fresh_shift_jis(m),
+    let reach = reach::<K>(bytes, closed);
+    match ask(score, K::PLACE, reach, body, closed, fed) {
+        Asked::Sound => m.is_sound(bytes, reach),
+        Asked::Fresh => m.is_fresh(),
         Asked::Never => false,
     }
 }
@@ -294,32 +144,31 @@ pub fn are_in_order(places: Slate, bytes: u64, body: u64, closed: bool, fed: boo
     if lengths::LIMIT < bytes {
         return false;
     }
-    let spaced = with_space(bytes, closed);
-    if !is_in_order_shift_jis(places[8], bytes, body, closed, fed) {
+    if !is_in_order::<ShiftJis>(places[8], bytes, body, closed, fed) {
         return false;
     }
-    if !is_in_order_arabic_french(places[7], bytes, spaced, body, closed, fed) {
+    if !is_in_order::<ArabicFrench>(places[7], bytes, body, closed, fed) {
         return false;
     }
-    if !is_in_order_visual(places[6], bytes, spaced, body, closed, fed) {
+    if !is_in_order::<Visual>(places[6], bytes, body, closed, fed) {
         return false;
     }
-    if !is_in_order_logical(places[5], bytes, spaced, body, closed, fed) {
+    if !is_in_order::<Logical>(places[5], bytes, body, closed, fed) {
         return false;
     }
-    if !is_in_order_caseless(places[4], bytes, spaced, body, closed, fed) {
+    if !is_in_order::<Caseless>(places[4], bytes, body, closed, fed) {
         return false;
     }
-    if !is_in_order_big5(places[3], bytes, body, closed, fed) {
+    if !is_in_order::<Big5>(places[3], bytes, body, closed, fed) {
         return false;
     }
-    if !is_in_order_euckr(places[2], bytes, body, closed, fed) {
+    if !is_in_order::<EucKr>(places[2], bytes, body, closed, fed) {
         return false;
     }
-    if !is_in_order_iso2022jp(places[1], bytes, body, closed, fed) {
+    if !is_in_order::<Iso2022Jp>(places[1], bytes, body, closed, fed) {
         return false;
     }
-    if !is_in_order_utf8(places[0], bytes, body, closed, fed) {
+    if !is_in_order::<Utf8>(places[0], bytes, body, closed, fed) {
         return false;
     }
     true

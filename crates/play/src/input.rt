@@ -3,6 +3,7 @@ ghost use Rattle.std.specs.Prelude.{false, ◌≡◌, ◌+◌, ◌-◌, ◌≤�
 ghost use Rattle.play.specs.Within.{Within, Filled};
 
 use reader::fill;
+use reader::number::Number;
 
 // Where the bytes at hand begin and end in the window; `whole` until more were wanted than the input has.
 #[derive(Clone, Copy)]
@@ -50,16 +51,13 @@ impl Span {
     }
 }
 
-// Moves the bytes at hand to the window's beginning; answers how many they are.
+// Moves the bytes at hand to the window's beginning; answers how many they are. The two numbers are those of a `Span`, which `fill`
+// takes apart.
 fn slide(window: &mut [u8], at: usize, end: usize) -> usize
     requires { (at ≤ end) × (end ≤ length window.old) }
     ensures { result ≡ end - at }
 {
-    let mut i = at;
-    while i < end {
-        window[i - at] = window[i];
-        i += 1;
-    }
+    window.copy_within(at..end, 0);
     end - at
 }
 
@@ -101,67 +99,18 @@ pub(crate) fn fill(window: &mut [u8], span: Span, want: usize) -> Span
     }
 }
 
-// A table of each width, its bytes taken from the input.
-pub(crate) fn octets(window: &mut [u8], span: Span, to: &mut [u8]) -> Span
+// A table, its bytes taken from the input.
+pub(crate) fn entries<T: Number>(window: &mut [u8], span: Span, to: &mut [T]) -> Span
     requires { Within (length window.old) span }
     ensures { Within (length window.old) result }
 {
-    let want = to.len();
-    let s = fill(window, span, want);
-    let at = s.at;
-    if s.whole {
-        fill::octets(&window[at..at + want], to);
-        return s.past(want);
-    }
-    s
-}
-
-pub(crate) fn halves(window: &mut [u8], span: Span, to: &mut [i16]) -> Span
-    requires { Within (length window.old) span }
-    ensures { Within (length window.old) result }
-{
-    if window.len() / 2 < to.len() {
+    let Some(want) = T::SIZE.checked_mul(to.len()) else {
         return span.cut();
-    }
-    let want = 2 * to.len();
+    };
     let s = fill(window, span, want);
     let at = s.at;
     if s.whole {
-        fill::halves(&window[at..at + want], to);
-        return s.past(want);
-    }
-    s
-}
-
-pub(crate) fn words(window: &mut [u8], span: Span, to: &mut [u32]) -> Span
-    requires { Within (length window.old) span }
-    ensures { Within (length window.old) result }
-{
-    if window.len() / 4 < to.len() {
-        return span.cut();
-    }
-    let want = 4 * to.len();
-    let s = fill(window, span, want);
-    let at = s.at;
-    if s.whole {
-        fill::words(&window[at..at + want], to);
-        return s.past(want);
-    }
-    s
-}
-
-pub(crate) fn signed_words(window: &mut [u8], span: Span, to: &mut [i32]) -> Span
-    requires { Within (length window.old) span }
-    ensures { Within (length window.old) result }
-{
-    if window.len() / 4 < to.len() {
-        return span.cut();
-    }
-    let want = 4 * to.len();
-    let s = fill(window, span, want);
-    let at = s.at;
-    if s.whole {
-        fill::signed_words(&window[at..at + want], to);
+        fill::entries(&window[at..at + want], to);
         return s.past(want);
     }
     s

@@ -1,49 +1,44 @@
 // Answers go to standard output, or into a digest.
 use digest::Digest;
-use lines::show;
 use scribe::STDOUT_FILENO;
-use state::State;
-use state::reply::{Reply, StartReply};
+use scribe::page::Page;
+use std::convert::AsSlice;
 
+// Without a digest, the answers go to standard output as they come.
 #[derive(Clone, Copy)]
-pub(crate) enum Sink {
-    Out,
-    Digest(Digest),
+pub(crate) struct Sink {
+    digest: Option<Digest>,
 }
 
 impl Sink {
-    pub(crate) fn with(self, text: &[u8]) -> Sink {
-        match self {
-            Sink::Out => {
-                io::write_all(STDOUT_FILENO, text);
-                self
-            }
-            Sink::Digest(d) => Sink::Digest(d.with(text)),
+    pub(crate) fn new(aloud: bool) -> Sink {
+        Sink {
+            digest: if aloud { None } else { Some(Digest::fresh()) },
         }
     }
 
-    pub(crate) fn with_reply(self, reply: Reply) -> Sink {
-        let mut text = [0u8; 16];
-        let end = show::reply(&mut text, 0, reply);
-        self.with(&text[..end])
+    pub(crate) fn with(self, text: &[u8]) -> Sink {
+        if self.digest.is_none() {
+            io::write_all(STDOUT_FILENO, text);
+        }
+        Sink {
+            digest: self.digest.map(|digest| digest.with(text)),
+        }
     }
 
-    pub(crate) fn with_start(self, reply: StartReply) -> Sink {
-        let mut text = [0u8; 16];
-        let end = show::start(&mut text, 0, reply);
-        self.with(&text[..end])
-    }
-
-    pub(crate) fn with_state(self, state: State) -> Sink {
-        let mut text = [0u8; 2048];
-        let end = show::state(&mut text, 0, state);
-        self.with(&text[..end])
+    // What is written on a page over this buffer.
+    pub(crate) fn with_page<F: FnOnce(&mut Page)>(self, buffer: &mut [u8], write: F) -> Sink
+        requires { F.IsAlwaysCallable write }
+    {
+        let mut out = Page::new(buffer, 0);
+        write(&mut out);
+        self.with(out.as_slice())
     }
 
     // What is left to print at the end.
     pub(crate) fn end(self) {
-        if let Sink::Digest(d) = self {
-            d.print();
+        if let Some(digest) = self.digest {
+            digest.print();
         }
     }
 }

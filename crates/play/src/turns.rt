@@ -1,6 +1,7 @@
 // Commands in turn, over the tables that are lent.
 ghost use Rattle.std.specs.Prelude.{◌≡◌, ◌+◌, ◌≤◌, length, take, drop};
-ghost use Rattle.tables.specs.Tables.{tables};
+ghost use Rattle.tables.specs.Held.{held};
+ghost use Rattle.tables.specs.Lists.{lists};
 ghost use Rattle.state.specs.State.{started_of};
 ghost use Rattle.detector.specs.Feed.{feed_of};
 ghost use Rattle.play.specs.Turn.{at_hand, state_after, Played};
@@ -10,15 +11,20 @@ use crate::input;
 use crate::input::Span;
 use crate::print::Sink;
 use detector::feed;
-use digest::Digest;
-use lengths::{BIG5, CLASSES, EUC_KR, EXTRAS, JIS, MARKS, PAIRS, WEIGHTS};
+use lines::show;
 use reader::command;
 use reader::command::Command;
 use state;
 use state::State;
+use tables::Tables;
+use tables::held::{Held, HeldSingle};
+
+// How many rounds are played at most, and commands of a round: more than can come in. The input ends both, and may have no end
+// itself, so they are counted only for the proof that a function ends.
+const MOST: u64 = 0x4000_0000_0000_0000;
 
 // What comes after a command.
-#[derive(Clone, Copy)]
+#[derive(Clone, Copy, PartialEq, Eq)]
 enum Next {
     Command,
     Tables,
@@ -63,7 +69,7 @@ impl Stand {
         Stand {
             state: fresh,
             span: span.past(3),
-            sink: sink.with_start(reply),
+            sink: sink.with_page(&mut [0; 16], |out| show::start(out, reply)),
             next: Next::Command,
         }
     }
@@ -79,7 +85,7 @@ impl Stand {
         Stand {
             state: held,
             span: span.past(1),
-            sink: sink.with_state(held),
+            sink: sink.with_page(&mut [0; 2048], |out| show::state(out, held)),
             next: Next::Command,
         }
     }
@@ -103,95 +109,33 @@ impl Stand {
 }
 
 // A chunk of so many bytes, which stands in the window.
-fn fed(
-    window: &[u8],
-    t: Stand,
-    last: bool,
-    count: usize,
-    classes4: &[u8],
-    marks4: &[u8],
-    pairs4: &[i16],
-    classes5: &[u8],
-    marks5: &[u8],
-    pairs5: &[i16],
-    classes6: &[u8],
-    marks6: &[u8],
-    pairs6: &[i16],
-    classes7: &[u8],
-    marks7: &[u8],
-    pairs7: &[i16],
-    big5: &[u32],
-    euckr: &[u32],
-    jis: &[u32],
-    extras: &[i16],
-    weights: &[i32],
-) -> Stand
+fn fed(window: &[u8], t: Stand, last: bool, count: usize, tables: &Tables) -> Stand
     requires within { Within (length window.now) t.span }
     requires count_bound { t.span.at + (6 + count) ≤ t.span.end }
     ensures within_2 { Within (length window.now) result.span }
-    ensures state_value { result.state ≡ (feed_of (tables classes4.now marks4.now pairs4.now classes5.now marks5.now pairs5.now classes6.now marks6.now pairs6.now classes7.now marks7.now pairs7.now big5.now euckr.now jis.now extras.now weights.now) t.state (take count (drop (t.span.at + 6) window.now)) last).state }
+    ensures state_value { result.state ≡ (feed_of (lists tables.now) t.state (take count (drop (t.span.at + 6) window.now)) last).state }
 {
     let span = t.span;
     let sink = t.sink;
     let state = t.state;
     let from = span.at + command::HEAD;
-    let fed = feed::feed(
-        state,
-        &window[from..from + count],
-        last,
-        classes4,
-        marks4,
-        pairs4,
-        classes5,
-        marks5,
-        pairs5,
-        classes6,
-        marks6,
-        pairs6,
-        classes7,
-        marks7,
-        pairs7,
-        big5,
-        euckr,
-        jis,
-        extras,
-        weights,
-    );
+    let fed = feed::feed(state, &window[from..from + count], last, tables);
     let after = fed.state;
     let reply = fed.reply;
     Stand {
         state: after,
         span: span.past(command::HEAD + count),
-        sink: sink.with_reply(reply),
+        sink: sink.with_page(&mut [0; 16], |out| show::reply(out, reply)),
         next: Next::Command,
     }
 }
 
-// One command, or the bytes that it still wants.
-fn turn(
-    window: &mut [u8],
-    t: Stand,
-    classes4: &[u8],
-    marks4: &[u8],
-    pairs4: &[i16],
-    classes5: &[u8],
-    marks5: &[u8],
-    pairs5: &[i16],
-    classes6: &[u8],
-    marks6: &[u8],
-    pairs6: &[i16],
-    classes7: &[u8],
-    marks7: &[u8],
-    pairs7: &[i16],
-    big5: &[u32],
-    euckr: &[u32],
-    jis: &[u32],
-    extras: &[i16],
-    weights: &[i32],
-) -> Stand
+// One command, or the bytes that it still wants. Each case calls what is its own: a table of functions would have to give them one
+// signature.
+fn turn(window: &mut [u8], t: Stand, tables: &Tables) -> Stand
     requires { Within (length window.old) t.span }
     ensures within { Within (length window.old) result.span }
-    ensures state_value { result.state ≡ state_after (tables classes4.now marks4.now pairs4.now classes5.now marks5.now pairs5.now classes6.now marks6.now pairs6.now classes7.now marks7.now pairs7.now big5.now euckr.now jis.now extras.now weights.now) t.state (at_hand window.old t.span) }
+    ensures state_value { result.state ≡ state_after (lists tables.now) t.state (at_hand window.old t.span) }
 {
     let span = t.span;
     let at = span.at;
@@ -199,10 +143,7 @@ fn turn(
     let found = command::read(&window[at..end]);
     match found {
         Command::Start(bits) => t.started(bits),
-        Command::Feed(last, count) => fed(
-            window, t, last, count, classes4, marks4, pairs4, classes5, marks5, pairs5, classes6,
-            marks6, pairs6, classes7, marks7, pairs7, big5, euckr, jis, extras, weights,
-        ),
+        Command::Feed(last, count) => fed(window, t, last, count, tables),
         Command::Show => t.shown(),
         Command::Lend => t.at(span.past(1), Next::Tables),
         Command::More(want) => t.filled(window, want),
@@ -211,165 +152,59 @@ fn turn(
 }
 
 // The commands until the input ends, is malformed, or lends new tables.
-fn turns(
-    window: &mut [u8],
-    from: Stand,
-    classes4: &[u8],
-    marks4: &[u8],
-    pairs4: &[i16],
-    classes5: &[u8],
-    marks5: &[u8],
-    pairs5: &[i16],
-    classes6: &[u8],
-    marks6: &[u8],
-    pairs6: &[i16],
-    classes7: &[u8],
-    marks7: &[u8],
-    pairs7: &[i16],
-    big5: &[u32],
-    euckr: &[u32],
-    jis: &[u32],
-    extras: &[i16],
-    weights: &[i32],
-) -> Stand
+fn turns(window: &mut [u8], from: Stand, tables: &Tables) -> Stand
     requires { Within (length window.old) from.span }
     ensures within { Within (length window.old) result.span }
-    ensures played { Played (tables classes4.now marks4.now pairs4.now classes5.now marks5.now pairs5.now classes6.now marks6.now pairs6.now classes7.now marks7.now pairs7.now big5.now euckr.now jis.now extras.now weights.now) from.state result.state }
+    ensures played { Played (lists tables.now) from.state result.state }
 {
     let mut t = from;
-    let mut count: u64 = 0;
-    while count < 0x4000_0000_0000_0000 {
-        t = turn(
-            window, t, classes4, marks4, pairs4, classes5, marks5, pairs5, classes6, marks6,
-            pairs6, classes7, marks7, pairs7, big5, euckr, jis, extras, weights,
-        );
-        let next = t.next;
-        let Next::Command = next else {
+    for _ in 0..MOST {
+        t = turn(window, t, tables);
+        if t.next != Next::Command {
             return t;
-        };
-        count += 1;
+        }
     }
     t
 }
 
 // The tables of one single-byte place.
-fn single(
-    window: &mut [u8],
-    span: Span,
-    classes: &mut [u8; CLASSES],
-    marks: &mut [u8; MARKS],
-    pairs: &mut [i16; PAIRS],
-) -> Span
+fn single(window: &mut [u8], span: Span, to: &mut HeldSingle) -> Span
     requires { Within (length window.old) span }
     ensures { Within (length window.old) result }
 {
-    let a = input::octets(window, span, classes);
-    let b = input::octets(window, a, marks);
-    input::halves(window, b, pairs)
+    let a = input::entries(window, span, &mut to.classes);
+    let b = input::entries(window, a, &mut to.marks);
+    input::entries(window, b, &mut to.pairs)
 }
 
-// The tables of the single-byte places, one place after the other.
-fn lend_singles(
-    window: &mut [u8],
-    span: Span,
-    classes4: &mut [u8; CLASSES],
-    marks4: &mut [u8; MARKS],
-    pairs4: &mut [i16; PAIRS],
-    classes5: &mut [u8; CLASSES],
-    marks5: &mut [u8; MARKS],
-    pairs5: &mut [i16; PAIRS],
-    classes6: &mut [u8; CLASSES],
-    marks6: &mut [u8; MARKS],
-    pairs6: &mut [i16; PAIRS],
-    classes7: &mut [u8; CLASSES],
-    marks7: &mut [u8; MARKS],
-    pairs7: &mut [i16; PAIRS],
-) -> Span
+// The tables, one after the other.
+fn lend(window: &mut [u8], span: Span, to: &mut Held) -> Span
     requires { Within (length window.old) span }
     ensures { Within (length window.old) result }
 {
-    let a = single(window, span, classes4, marks4, pairs4);
-    let b = single(window, a, classes5, marks5, pairs5);
-    let c = single(window, b, classes6, marks6, pairs6);
-    single(window, c, classes7, marks7, pairs7)
-}
-
-// The tables after them.
-fn lend_rest(
-    window: &mut [u8],
-    span: Span,
-    big5: &mut [u32; BIG5],
-    euckr: &mut [u32; EUC_KR],
-    jis: &mut [u32; JIS],
-    extras: &mut [i16; EXTRAS],
-    weights: &mut [i32; WEIGHTS],
-) -> Span
-    requires { Within (length window.old) span }
-    ensures { Within (length window.old) result }
-{
-    let a = input::words(window, span, big5);
-    let b = input::words(window, a, euckr);
-    let c = input::words(window, b, jis);
-    let d = input::halves(window, c, extras);
-    input::signed_words(window, d, weights)
+    let a = single(window, span, &mut to.caseless);
+    let b = single(window, a, &mut to.logical);
+    let c = single(window, b, &mut to.visual);
+    let d = single(window, c, &mut to.arabic_french);
+    let e = input::entries(window, d, &mut to.big5);
+    let f = input::entries(window, e, &mut to.euckr);
+    let g = input::entries(window, f, &mut to.jis);
+    let h = input::entries(window, g, &mut to.extras);
+    input::entries(window, h, &mut to.weights)
 }
 
 // Lent data, then commands.
-fn round(
-    window: &mut [u8; 131072],
-    from: Stand,
-    classes4: &mut [u8; CLASSES],
-    marks4: &mut [u8; MARKS],
-    pairs4: &mut [i16; PAIRS],
-    classes5: &mut [u8; CLASSES],
-    marks5: &mut [u8; MARKS],
-    pairs5: &mut [i16; PAIRS],
-    classes6: &mut [u8; CLASSES],
-    marks6: &mut [u8; MARKS],
-    pairs6: &mut [i16; PAIRS],
-    classes7: &mut [u8; CLASSES],
-    marks7: &mut [u8; MARKS],
-    pairs7: &mut [i16; PAIRS],
-    big5: &mut [u32; BIG5],
-    euckr: &mut [u32; EUC_KR],
-    jis: &mut [u32; JIS],
-    extras: &mut [i16; EXTRAS],
-    weights: &mut [i32; WEIGHTS],
-) -> Stand
+fn round(window: &mut [u8; 131072], from: Stand, lent: &mut Held) -> Stand
     requires { Within (length window.old) from.span }
     ensures within { Within (length window.old) result.span × (length window.new ≡ length window.old) }
-    ensures played { Played (tables classes4.new marks4.new pairs4.new classes5.new marks5.new pairs5.new classes6.new marks6.new pairs6.new classes7.new marks7.new pairs7.new big5.new euckr.new jis.new extras.new weights.new) from.state result.state }
+    ensures played { Played (held lent.new) from.state result.state }
 {
     let first = from.span;
-    let second = lend_singles(
-        window, first, classes4, marks4, pairs4, classes5, marks5, pairs5, classes6, marks6,
-        pairs6, classes7, marks7, pairs7,
-    );
-    let span = lend_rest(window, second, big5, euckr, jis, extras, weights);
+    let span = lend(window, first, lent);
     if !span.whole {
         return from.at(span, Next::Bad);
     }
-    turns(
-        window,
-        from.at(span, Next::Command),
-        classes4,
-        marks4,
-        pairs4,
-        classes5,
-        marks5,
-        pairs5,
-        classes6,
-        marks6,
-        pairs6,
-        classes7,
-        marks7,
-        pairs7,
-        big5,
-        euckr,
-        jis,
-        extras,
-        weights,
-    )
+    turns(window, from.at(span, Next::Command), &Tables::from(&*lent))
 }
 
 // The first stream has all places.
@@ -384,26 +219,17 @@ fn begun(from: i32, aloud: bool) -> Stand
     ensures within { Within 131072 result.span }
     ensures state_value { result.state ≡ (started_of 511).state }
 {
-    if aloud {
-        return Stand {
-            state: every_place(),
-            span: Span::empty(from),
-            sink: Sink::Out,
-            next: Next::Tables,
-        };
-    }
     Stand {
         state: every_place(),
         span: Span::empty(from),
-        sink: Sink::Digest(Digest::fresh()),
+        sink: Sink::new(aloud),
         next: Next::Tables,
     }
 }
 
 fn ended(t: Stand) {
-    let next = t.next;
     let sink = t.sink;
-    if let Next::Bad = next {
+    if t.next == Next::Bad {
         sink.with(b"bad input\n").end();
         return;
     }
@@ -413,53 +239,13 @@ fn ended(t: Stand) {
 // Plays what a descriptor has. The answers go to standard output as they are, or their digest at the end.
 pub fn play(from: i32, aloud: bool) {
     let mut window = [0u8; 131072];
-    let mut classes4 = [0u8; CLASSES];
-    let mut marks4 = [0u8; MARKS];
-    let mut pairs4 = [0i16; PAIRS];
-    let mut classes5 = [0u8; CLASSES];
-    let mut marks5 = [0u8; MARKS];
-    let mut pairs5 = [0i16; PAIRS];
-    let mut classes6 = [0u8; CLASSES];
-    let mut marks6 = [0u8; MARKS];
-    let mut pairs6 = [0i16; PAIRS];
-    let mut classes7 = [0u8; CLASSES];
-    let mut marks7 = [0u8; MARKS];
-    let mut pairs7 = [0i16; PAIRS];
-    let mut big5 = [0u32; BIG5];
-    let mut euckr = [0u32; EUC_KR];
-    let mut jis = [0u32; JIS];
-    let mut extras = [0i16; EXTRAS];
-    let mut weights = [0i32; WEIGHTS];
+    let mut lent = Held::zero();
     let mut t = begun(from, aloud);
-    let mut count: u64 = 0;
-    while count < 0x4000_0000_0000_0000 {
-        t = round(
-            &mut window,
-            t,
-            &mut classes4,
-            &mut marks4,
-            &mut pairs4,
-            &mut classes5,
-            &mut marks5,
-            &mut pairs5,
-            &mut classes6,
-            &mut marks6,
-            &mut pairs6,
-            &mut classes7,
-            &mut marks7,
-            &mut pairs7,
-            &mut big5,
-            &mut euckr,
-            &mut jis,
-            &mut extras,
-            &mut weights,
-        );
-        let next = t.next;
-        let Next::Tables = next else {
-            ended(t);
-            return;
-        };
-        count += 1;
+    for _ in 0..MOST {
+        t = round(&mut window, t, &mut lent);
+        if t.next != Next::Tables {
+            break;
+        }
     }
     ended(t);
 }

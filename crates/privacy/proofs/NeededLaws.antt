@@ -1,5 +1,5 @@
 -- The pairs of `Needed`, by computation.
-use Rattle.std.specs.Prelude.{◌≡◌, refl, Bool, not, ℕ, zero, suc, ◌+◌, ◌<◌, ◌≤◌, eqb, ℤ, pos, length, get_or}
+use Rattle.std.specs.Prelude.{◌≡◌, refl, Bool, not, ℕ, zero, suc, ◌+◌, ◌<◌, ◌≤◌, eqb, ℤ, pos, length, get_or, Ok}
 use Rattle.std.proofs.Math.Path.{sym, ap, subst}
 use Rattle.std.proofs.Common.{◌∙◌, inr, arith, length-set}
 use Rattle.std.proofs.Math.Bool.{true, false}
@@ -30,7 +30,6 @@ use Rattle.places.specs.Place.{place, place_as, ran_from, end_from, feed_of as f
 use Rattle.places.specs.Slate as slate
 use Rattle.places.specs.SlateLaws.{feed_at}
 use Rattle.places.specs.declared.place.Place.{Place}
-use Rattle.places.specs.declared.place.Score.TheVariants.{None, Live}
 use Rattle.state.specs.Reply.{number_of}
 use Rattle.state.specs.State.{fresh, start_of}
 use Rattle.state.specs.declared.State.{State}
@@ -44,6 +43,7 @@ use Rattle.detector.specs.declared.feed.Fed.{Fed}
 use Rattle.privacy.specs.Needed.{Fails, SameHeads, whole, in_two, all_in, zeros, no_scores, lent_with, nothing_lent, barred, lettered, latin, after_a, after_space, cut, uncut, shift_cut, shift_uncut, EachNeeded}
 use Rattle.privacy.specs.PlacesLaws.{stream_places}
 use Rattle.privacy.specs.Privacy.{Call, after_calls, ClosedStream, chunks_of, stream_of, InEach, No255, NoLetter, Premises, Agree}
+use Rattle.places.specs.Score.{Score, no_score}
 
 -- ---- lengths
 zeros_length : (n : ℕ) → length (zeros n) ≡ n
@@ -114,7 +114,7 @@ module _ (t : Tables) (z : Sized t) (bits : ℕ) where
 
 -- ---- what a closed stream leaves in place k, of what reached the places
 abbrev other : Place
-other = place (Utf8 utf-8.fresh) (Live (pos 0))
+other = place (Utf8 utf-8.fresh) (Ok (pos 0))
 
 -- what reaches the places of a stream with a trigger, and how many bytes it has from the end of the head on
 pub record ReachedBy (calls : List Call) (body : ℕ) (xs : List ℕ) : Type 0 where
@@ -141,21 +141,21 @@ module _ (t : Tables) (one two : List Call) (c : ClosedStream t all_in one) (d :
   records_differ : ((left_in t k body xs).machine ≡ (left_in t k body ys).machine → ⊥) → Agree (after_calls t (start_of all_in) one) (after_calls t (start_of all_in) two) → ⊥
   records_differ apart a = places_differ (λ (p : Place). p.machine) apart (λ b. b.records k other) a
 
-none_live : {d : Reason} {at : ℕ} {n : ℤ} → None d at ≡ Live n → ⊥
+none_live : {d : Reason} {at : ℕ} {n : ℤ} → no_score d at ≡ Ok n → ⊥
 none_live e = let z : ◌≡◌ {A = ℕ} 0 1 = cc in omega arith
 
 -- ---- the same last two
 latin_sized : Sized latin
 latin_sized = with_sized _ _ _ (simp length-set (zeros_length class_count)) (zeros_length mark_count) (simp length-set (no_scores_length weight_count))
 
-one_apart : Live (pos 1) ≡ Live (pos 0) → ⊥
+one_apart : ◌≡◌ {A = Score} (Ok (pos 1)) (Ok (pos 0)) → ⊥
 one_apart e = let z : ◌≡◌ {A = ℕ} 1 0 = cc in omega arith
 
-after_capitals : (left_in latin 7 1 (0x41 ∷ 0x42 ∷ 0xE9 ∷ [])).score ≡ Live (pos 1)
+after_capitals : (left_in latin 7 1 (0x41 ∷ 0x42 ∷ 0xE9 ∷ [])).score ≡ Ok (pos 1)
 unfolding slate.start_of ran_from end_from place_as run ends_at takes with_byte plus step_of close_of carried arabic_french.step_of pair_gain_of adjacent_of zeros no_scores
 after_capitals = refl
 
-after_space_lem : (left_in latin 7 1 (0x20 ∷ 0x42 ∷ 0xE9 ∷ [])).score ≡ Live (pos 0)
+after_space_lem : (left_in latin 7 1 (0x20 ∷ 0x42 ∷ 0xE9 ∷ [])).score ≡ Ok (pos 0)
 unfolding slate.start_of ran_from end_from place_as run ends_at takes with_byte plus step_of close_of carried arabic_french.step_of pair_gain_of adjacent_of zeros no_scores
 after_space_lem = refl
 
@@ -163,11 +163,11 @@ after_space_lem = refl
 barred_sized : Sized barred
 barred_sized = with_sized _ _ _ (simp length-set (zeros_length class_count)) (zeros_length mark_count) (no_scores_length weight_count)
 
-with_41 : (left_in barred 4 1 (0x41 ∷ 0x20 ∷ 0x20 ∷ 0xE9 ∷ [])).score ≡ None Class255 0
+with_41 : (left_in barred 4 1 (0x41 ∷ 0x20 ∷ 0x20 ∷ 0xE9 ∷ [])).score ≡ no_score Class255 0
 unfolding slate.start_of ran_from end_from place_as run ends_at takes with_byte plus step_of close_of carried caseless.step_of pair_gain_of adjacent_of zeros no_scores
 with_41 = refl
 
-without_41 : (left_in barred 4 1 (0x20 ∷ 0x20 ∷ 0xE9 ∷ [])).score ≡ Live (pos 0)
+without_41 : (left_in barred 4 1 (0x20 ∷ 0x20 ∷ 0xE9 ∷ [])).score ≡ Ok (pos 0)
 unfolding slate.start_of ran_from end_from place_as run ends_at takes with_byte plus step_of close_of carried caseless.step_of pair_gain_of adjacent_of zeros no_scores
 without_41 = refl
 
@@ -201,15 +201,15 @@ no_word = refl
 nothing_sized : Sized nothing_lent
 nothing_sized = with_sized _ _ _ (zeros_length class_count) (zeros_length mark_count) (no_scores_length weight_count)
 
-with_0e : (left_in nothing_lent 1 3 (0x0E ∷ 0x20 ∷ 0x20 ∷ 0x1B ∷ 0x28 ∷ 0x42 ∷ [])).score ≡ None BadByte 0
+with_0e : (left_in nothing_lent 1 3 (0x0E ∷ 0x20 ∷ 0x20 ∷ 0x1B ∷ 0x28 ∷ 0x42 ∷ [])).score ≡ no_score BadByte 0
 unfolding slate.start_of ran_from end_from place_as run ends_at takes with_byte plus step_of close_of carried step_in ascii_of is_text escape_start_of designated state_of escaped_to close_in any
 with_0e = refl
 
-with_0f : (left_in nothing_lent 1 3 (0x0F ∷ 0x20 ∷ 0x20 ∷ 0x1B ∷ 0x28 ∷ 0x42 ∷ [])).score ≡ None BadByte 0
+with_0f : (left_in nothing_lent 1 3 (0x0F ∷ 0x20 ∷ 0x20 ∷ 0x1B ∷ 0x28 ∷ 0x42 ∷ [])).score ≡ no_score BadByte 0
 unfolding slate.start_of ran_from end_from place_as run ends_at takes with_byte plus step_of close_of carried step_in ascii_of is_text escape_start_of designated state_of escaped_to close_in any
 with_0f = refl
 
-without_shift : (left_in nothing_lent 1 3 (0x20 ∷ 0x20 ∷ 0x1B ∷ 0x28 ∷ 0x42 ∷ [])).score ≡ Live (pos 0)
+without_shift : (left_in nothing_lent 1 3 (0x20 ∷ 0x20 ∷ 0x1B ∷ 0x28 ∷ 0x42 ∷ [])).score ≡ Ok (pos 0)
 unfolding slate.start_of ran_from end_from place_as run ends_at takes with_byte plus step_of close_of carried step_in ascii_of is_text escape_start_of designated state_of escaped_to close_in any
 without_shift = refl
 
@@ -242,7 +242,7 @@ plain_nothing : No255 nothing_lent.caseless
 unfolding all zeros
 plain_nothing = below_255 nothing_lent.caseless refl
 
-shift_fails : (b : ℕ) → reaches_of fresh (b ∷ 0x20 ∷ []) ≡ none → ReachedBy (shift_cut b) 3 (b ∷ 0x20 ∷ 0x20 ∷ 0x1B ∷ 0x28 ∷ 0x42 ∷ []) → ReachedBy (shift_uncut b) 3 (0x20 ∷ 0x20 ∷ 0x1B ∷ 0x28 ∷ 0x42 ∷ []) → (left_in nothing_lent 1 3 (b ∷ 0x20 ∷ 0x20 ∷ 0x1B ∷ 0x28 ∷ 0x42 ∷ [])).score ≡ None BadByte 0 → Fails nothing_lent all_in (shift_cut b) (shift_uncut b) (SameHeads (shift_cut b) (shift_uncut b) × (InEach No255 nothing_lent × InEach NoLetter nothing_lent))
+shift_fails : (b : ℕ) → reaches_of fresh (b ∷ 0x20 ∷ []) ≡ none → ReachedBy (shift_cut b) 3 (b ∷ 0x20 ∷ 0x20 ∷ 0x1B ∷ 0x28 ∷ 0x42 ∷ []) → ReachedBy (shift_uncut b) 3 (0x20 ∷ 0x20 ∷ 0x1B ∷ 0x28 ∷ 0x42 ∷ []) → (left_in nothing_lent 1 3 (b ∷ 0x20 ∷ 0x20 ∷ 0x1B ∷ 0x28 ∷ 0x42 ∷ [])).score ≡ no_score BadByte 0 → Fails nothing_lent all_in (shift_cut b) (shift_uncut b) (SameHeads (shift_cut b) (shift_uncut b) × (InEach No255 nothing_lent × InEach NoLetter nothing_lent))
 unfolding flatten
 shift_fails b saved r q gone =
     let one = two_closed nothing_lent nothing_sized all_in (b ∷ 0x20 ∷ []) (0x20 ∷ 0x1B ∷ 0x28 ∷ 0x42 ∷ []) saved (omega arith) in

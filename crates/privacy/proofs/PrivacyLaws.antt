@@ -9,7 +9,7 @@ use Rattle.context.specs.Head.{is_trigger, head_of, non_ascii_count}
 use Rattle.context.specs.HeadLaws.{head_triggerless}
 use Rattle.tables.specs.Own.{Own, nothing, of_single, place_count, owns, own_of}
 use Rattle.tables.specs.Tables.{Single, Tables}
-use Rattle.kinds.specs.HeadLaws.{head_plain, bare_plain}
+use Rattle.kinds.proofs.HeadLaws.{head_plain, bare_plain}
 use Rattle.kinds.specs.Plain.{is_shift, plain, Plain}
 use Rattle.places.specs.HeadLaws.{EndAlike, start_forgets}
 use Rattle.places.specs.Slate as slate

@@ -1,5 +1,5 @@
 -- A stream of accepted calls is a chain of advances, and only its final call closes.
-use Rattle.std.specs.Prelude.{◌≡◌, Bool, cond, List, [], ◌∷◌, ℕ, ◌+◌, ltb}
+use Rattle.std.specs.Prelude.{◌≡◌, Bool, cond, List, [], ◌∷◌, ℕ, ◌+◌, ltb, Ok, Err}
 use Rattle.std.proofs.Math.Path.{refl, ap}
 use Rattle.std.proofs.Common.{sym, ◌∙◌, arith}
 use Rattle.std.proofs.Math.Bool.{true, false}
@@ -11,12 +11,10 @@ use Rattle.state.specs.Reply.{number_of}
 use Rattle.state.specs.State.{flag_of}
 use Rattle.state.specs.declared.State.{State}
 use Rattle.state.specs.declared.reply.Reply.TheVariants.{Closed, WrongLength, TooLong, NotInOrder}
-use Rattle.detector.specs.Feed.{verdict_of, refusal_of, advance_of, feed_by}
+use Rattle.detector.specs.Feed.{Verdict, verdict_of, refusal_of, advance_of, feed_by}
 use Rattle.detector.specs.FeedLaws.{accept_passed, feed_accepted}
 use Rattle.detector.specs.Kept.{Passed}
 use Rattle.detector.specs.declared.feed.Fed.{Fed}
-use Rattle.detector.specs.declared.feed.Verdict.{Verdict}
-use Rattle.detector.specs.declared.feed.Verdict.TheVariants.{Accept, Refuse}
 use Rattle.privacy.specs.Privacy.{Call, state_after, after_calls, Accepted, AllAccepted}
 
 -- ---- one call
@@ -25,13 +23,13 @@ module _ (t : Tables) (s : State) (c : Call) where
   abbrev judged_by : Bool → Bool → Bool → Bool → Verdict
   judged_by in_order closed sized long =
       cond in_order
-      (cond closed (Refuse (Closed (flag_of s.front)))
+      (cond closed (Err (Closed (flag_of s.front)))
       (cond sized
-      (cond long (Refuse (TooLong (flag_of s.front))) Accept)
-      (Refuse (WrongLength (flag_of s.front)))))
-      (Refuse NotInOrder)
+      (cond long (Err (TooLong (flag_of s.front))) (Ok tt))
+      (Err (WrongLength (flag_of s.front)))))
+      (Err NotInOrder)
 
-  only_accept : (in_order closed sized long : Bool) → number_of (feed_by t s c.chunk c.is_last (judged_by in_order closed sized long)).reply ≡ 0 → Accept ≡ judged_by in_order closed sized long
+  only_accept : (in_order closed sized long : Bool) → number_of (feed_by t s c.chunk c.is_last (judged_by in_order closed sized long)).reply ≡ 0 → Ok tt ≡ judged_by in_order closed sized long
   unfolding feed_by number_of
   only_accept false closed sized long e = absurd (omega (arith, e))
   only_accept true true sized long e = absurd (omega (arith, e))
@@ -40,7 +38,7 @@ module _ (t : Tables) (s : State) (c : Call) where
   only_accept true false true false e = refl
 
   module _ (a : Accepted t s c) where
-    accept_is : Accept ≡ refusal_of t s c.chunk
+    accept_is : Ok tt ≡ refusal_of t s c.chunk
     unfolding verdict_of
     accept_is = only_accept (state_b s) s.front.closed (sized_b t) (ltb limit (s.front.bytes + length c.chunk)) a
 

@@ -10,14 +10,14 @@ fill k f xs [] = []
 fill k f xs (t ∷ ts) = cond (ltb (length xs) k) (t ∷ ts) (f xs ∷ fill k f (drop k xs) ts)
 
 -- the entry at the head of the bytes
-unfoldable pub octet_at : List ℕ → ℕ
+abbrev pub octet_at : List ℕ → ℕ
 octet_at xs = get_or xs 0 0
 
-unfoldable pub half_at : List ℕ → ℤ
+abbrev pub half_at : List ℕ → ℤ
 half_at xs = to_z w16 (little (take 2 xs))
 
-unfoldable pub word_at : List ℕ → ℕ
+abbrev pub word_at : List ℕ → ℕ
 word_at xs = little (take 4 xs)
 
-unfoldable pub signed_word_at : List ℕ → ℤ
+abbrev pub signed_word_at : List ℕ → ℤ
 signed_word_at xs = to_z w32 (word_at xs)

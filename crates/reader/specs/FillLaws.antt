@@ -42,5 +42,4 @@ module _ (xs : List ℕ) (at : ℕ) where
   first = get_or-drop at xs 0 0 ∙ ap (λ (n : ℕ). get_or xs n 0) (add-zero at)
 
   pub octet_at_lem : get_or xs at 0 ≡ octet_at (drop at xs)
-  unfolding octet_at
   octet_at_lem = rw first

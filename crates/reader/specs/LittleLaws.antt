@@ -1,5 +1,6 @@
 -- Two, four and eight bytes.
-use Rattle.std.specs.Prelude.{◌≡◌, refl, List, [], ◌∷◌, ℕ, zero, suc, ◌+◌, ◌*◌, ◌≤◌, length, get_or, take, drop}
+use Rattle.std.specs.Prelude.{◌≡◌, refl, List, [], ◌∷◌, ℕ, zero, suc, ◌+◌, ◌*◌, ◌≤◌, ◌<◌, length, slice_index, get_or, take, drop}
+use Rattle.std.specs.Int.{w16, w32, w64, from_le_bytes}
 use Rattle.std.proofs.Common.{add-one, arith, get_or-drop}
 use Rattle.std.proofs.Math.ListN.{get_or-eq_default}
 use Rattle.std.proofs.Math.Seq.{take-nil}
@@ -34,3 +35,16 @@ module _ (xs : List ℕ) (at k : ℕ) where
 
   pub byte_past : length xs ≤ at + k → 0 ≡ get_or (drop at xs) k 0
   byte_past h = rw (get_or-drop, get_or-eq_default xs 0 {n = at + k} h)
+
+-- ---- the number that the library reads from bytes that are those of the others, place by place
+module _ (bs xs : List ℕ) where
+  pub two_read : ((k : ℕ) → k < 2 → slice_index bs k ≡ slice_index xs k) → from_le_bytes w16 bs ≡ little_at 2 xs 0
+  two_read same = omega (arith, same 0 (omega arith), same 1 (omega arith), pair_are xs 0)
+
+  pub four_read : ((k : ℕ) → k < 4 → slice_index bs k ≡ slice_index xs k) → from_le_bytes w32 bs ≡ little_at 4 xs 0
+  four_read same =
+      omega (arith, same 0 (omega arith), same 1 (omega arith), same 2 (omega arith), same 3 (omega arith), pair_are xs 0, pair_are xs 2, four_are xs)
+
+  pub eight_read : ((k : ℕ) → k < 8 → slice_index bs k ≡ slice_index xs k) → from_le_bytes w64 bs ≡ little_at 8 xs 0
+  eight_read same =
+      omega (arith, same 0 (omega arith), same 1 (omega arith), same 2 (omega arith), same 3 (omega arith), same 4 (omega arith), same 5 (omega arith), same 6 (omega arith), same 7 (omega arith), pair_are xs 0, pair_are xs 2, pair_are xs 4, pair_are xs 6, four_are xs, eight_are xs)

@@ -10,7 +10,8 @@ pub const CHUNK: usize = 65_536;
 // The bytes of a feed before its chunk.
 pub const HEAD: usize = 6;
 
-#[derive(Clone, Copy)]
+// Six cases of equal rank, and so no Option or Result.
+#[derive(Clone, Copy, PartialEq, Eq)]
 pub enum Command {
     // Bit k says whether place k takes part.
     Start(u16),
@@ -30,7 +31,7 @@ fn start(bytes: &[u8]) -> Command
     if bytes.len() < 3 {
         return Command::More(3);
     }
-    Command::Start(number::two(bytes, 1))
+    Command::Start(number::at(bytes, 1))
 }
 
 fn feed(bytes: &[u8]) -> Command
@@ -42,7 +43,7 @@ fn feed(bytes: &[u8]) -> Command
     if 1 < bytes[1] {
         return Command::Bad;
     }
-    let length = number::four(bytes, 2) as usize;
+    let length = number::at::<u32>(bytes, 2) as usize;
     if CHUNK < length {
         return Command::Bad;
     }
@@ -56,14 +57,12 @@ fn feed(bytes: &[u8]) -> Command
 pub fn read(bytes: &[u8]) -> Command
     ensures { result ≡ read_of bytes.now }
 {
-    if bytes.len() < 1 {
-        return Command::More(1);
-    }
-    match bytes[0] {
-        0x53 => start(bytes),
-        0x46 => feed(bytes),
-        0x51 => Command::Show,
-        0x54 => Command::Lend,
+    match bytes {
+        [] => Command::More(1),
+        [b'S', ..] => start(bytes),
+        [b'F', ..] => feed(bytes),
+        [b'Q', ..] => Command::Show,
+        [b'T', ..] => Command::Lend,
         _ => Command::Bad,
     }
 }

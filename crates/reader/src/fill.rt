@@ -1,63 +1,19 @@
 // Lent tables, read from little-endian bytes. Entries for which there are no bytes stay as they are.
 ghost use Rattle.std.specs.Prelude.{◌≡◌};
-ghost use Rattle.reader.specs.Fill.{fill, octet_at, half_at, word_at, signed_word_at};
+ghost use Rattle.reader.specs.Fill.{fill};
 
-use crate::number;
+use crate::number::Number;
 
-pub fn octets(from: &[u8], to: &mut [u8])
-    ensures { to.new ≡ fill 1 octet_at from.now to.old }
+pub fn entries<T: Number>(from: &[u8], to: &mut [T])
+    ensures { to.new ≡ fill T.SIZE T.head from.now to.old }
 {
-    let mut i = 0;
-    while i < to.len() {
-        if from.len() - i < 1 {
+    // Of what is written through a zip with `chunks_exact` the check knows nothing.
+    let mut left = from;
+    for entry in to.iter_mut() {
+        if left.len() < T::SIZE {
             return;
         }
-        to[i] = from[i];
-        i += 1;
-    }
-}
-
-pub fn halves(from: &[u8], to: &mut [i16])
-    ensures { to.new ≡ fill 2 half_at from.now to.old }
-{
-    let mut i = 0;
-    let mut at = 0;
-    while i < to.len() {
-        if from.len() - at < 2 {
-            return;
-        }
-        to[i] = signed::of_bits16(number::two(from, at));
-        i += 1;
-        at += 2;
-    }
-}
-
-pub fn words(from: &[u8], to: &mut [u32])
-    ensures { to.new ≡ fill 4 word_at from.now to.old }
-{
-    let mut i = 0;
-    let mut at = 0;
-    while i < to.len() {
-        if from.len() - at < 4 {
-            return;
-        }
-        to[i] = number::four(from, at);
-        i += 1;
-        at += 4;
-    }
-}
-
-pub fn signed_words(from: &[u8], to: &mut [i32])
-    ensures { to.new ≡ fill 4 signed_word_at from.now to.old }
-{
-    let mut i = 0;
-    let mut at = 0;
-    while i < to.len() {
-        if from.len() - at < 4 {
-            return;
-        }
-        to[i] = signed::of_bits32(number::four(from, at));
-        i += 1;
-        at += 4;
+        *entry = T::first(left);
+        left = &left[T::SIZE..];
     }
 }

@@ -1,68 +1,93 @@
--- Each public function's contract asks nothing and determines the reply.
-use mathlib.Core.Path.{refl}
+-- Each function's contract asks nothing and determines the reply, of every kind.
+use Rattle.std.proofs.Common.{refl}
 use Rattle.laws.specs.Determined.{Determined, same}
-use Rattle.records.proofs.fresh.is_fresh_utf8.Kinds as fresh-is-fresh-utf8-kinds
-use Rattle.records.proofs.fresh.is_fresh_utf8.Reads as fresh-is-fresh-utf8-reads
-use Rattle.records.proofs.fresh.is_fresh_iso2022jp.Kinds as fresh-is-fresh-iso2022jp-kinds
-use Rattle.records.proofs.fresh.is_fresh_iso2022jp.Reads as fresh-is-fresh-iso2022jp-reads
-use Rattle.records.proofs.fresh.is_fresh_euckr.Kinds as fresh-is-fresh-euckr-kinds
-use Rattle.records.proofs.fresh.is_fresh_euckr.Reads as fresh-is-fresh-euckr-reads
-use Rattle.records.proofs.fresh.is_fresh_big5.Kinds as fresh-is-fresh-big5-kinds
-use Rattle.records.proofs.fresh.is_fresh_big5.Reads as fresh-is-fresh-big5-reads
-use Rattle.records.proofs.fresh.is_fresh_caseless.Kinds as fresh-is-fresh-caseless-kinds
-use Rattle.records.proofs.fresh.is_fresh_caseless.Reads as fresh-is-fresh-caseless-reads
-use Rattle.records.proofs.fresh.is_fresh_logical.Kinds as fresh-is-fresh-logical-kinds
-use Rattle.records.proofs.fresh.is_fresh_logical.Reads as fresh-is-fresh-logical-reads
-use Rattle.records.proofs.fresh.is_fresh_visual.Kinds as fresh-is-fresh-visual-kinds
-use Rattle.records.proofs.fresh.is_fresh_visual.Reads as fresh-is-fresh-visual-reads
-use Rattle.records.proofs.fresh.is_fresh_arabic_french.Kinds as fresh-is-fresh-arabic-french-kinds
-use Rattle.records.proofs.fresh.is_fresh_arabic_french.Reads as fresh-is-fresh-arabic-french-reads
-use Rattle.records.proofs.fresh.is_fresh_shift_jis.Kinds as fresh-is-fresh-shift-jis-kinds
-use Rattle.records.proofs.fresh.is_fresh_shift_jis.Reads as fresh-is-fresh-shift-jis-reads
-use Rattle.records.proofs.sound.is_sound_caseless.Kinds as sound-is-sound-caseless-kinds
-use Rattle.records.proofs.sound.is_sound_caseless.Reads as sound-is-sound-caseless-reads
-use Rattle.records.proofs.sound.is_sound_logical.Kinds as sound-is-sound-logical-kinds
-use Rattle.records.proofs.sound.is_sound_logical.Reads as sound-is-sound-logical-reads
-use Rattle.records.proofs.sound.is_sound_visual.Kinds as sound-is-sound-visual-kinds
-use Rattle.records.proofs.sound.is_sound_visual.Reads as sound-is-sound-visual-reads
-use Rattle.records.proofs.sound.is_sound_arabic_french.Kinds as sound-is-sound-arabic-french-kinds
-use Rattle.records.proofs.sound.is_sound_arabic_french.Reads as sound-is-sound-arabic-french-reads
+use Rattle.records.proofs.Utf8Record.is_fresh.Kinds as Utf8-is-fresh-kinds
+use Rattle.records.proofs.Utf8Record.is_fresh.Reads as Utf8-is-fresh-reads
+use Rattle.records.proofs.Utf8Record.is_sound.Kinds as Utf8-is-sound-kinds
+use Rattle.records.proofs.Utf8Record.is_sound.Reads as Utf8-is-sound-reads
+use Rattle.records.proofs.Iso2022JpRecord.is_fresh.Kinds as Iso2022Jp-is-fresh-kinds
+use Rattle.records.proofs.Iso2022JpRecord.is_fresh.Reads as Iso2022Jp-is-fresh-reads
+use Rattle.records.proofs.Iso2022JpRecord.is_sound.Kinds as Iso2022Jp-is-sound-kinds
+use Rattle.records.proofs.Iso2022JpRecord.is_sound.Reads as Iso2022Jp-is-sound-reads
+use Rattle.records.proofs.EucKrRecord.is_fresh.Kinds as EucKr-is-fresh-kinds
+use Rattle.records.proofs.EucKrRecord.is_fresh.Reads as EucKr-is-fresh-reads
+use Rattle.records.proofs.EucKrRecord.is_sound.Kinds as EucKr-is-sound-kinds
+use Rattle.records.proofs.EucKrRecord.is_sound.Reads as EucKr-is-sound-reads
+use Rattle.records.proofs.Big5Record.is_fresh.Kinds as Big5-is-fresh-kinds
+use Rattle.records.proofs.Big5Record.is_fresh.Reads as Big5-is-fresh-reads
+use Rattle.records.proofs.Big5Record.is_sound.Kinds as Big5-is-sound-kinds
+use Rattle.records.proofs.Big5Record.is_sound.Reads as Big5-is-sound-reads
+use Rattle.records.proofs.CaselessRecord.is_fresh.Kinds as Caseless-is-fresh-kinds
+use Rattle.records.proofs.CaselessRecord.is_fresh.Reads as Caseless-is-fresh-reads
+use Rattle.records.proofs.CaselessRecord.is_sound.Kinds as Caseless-is-sound-kinds
+use Rattle.records.proofs.CaselessRecord.is_sound.Reads as Caseless-is-sound-reads
+use Rattle.records.proofs.LogicalRecord.is_fresh.Kinds as Logical-is-fresh-kinds
+use Rattle.records.proofs.LogicalRecord.is_fresh.Reads as Logical-is-fresh-reads
+use Rattle.records.proofs.LogicalRecord.is_sound.Kinds as Logical-is-sound-kinds
+use Rattle.records.proofs.LogicalRecord.is_sound.Reads as Logical-is-sound-reads
+use Rattle.records.proofs.VisualRecord.is_fresh.Kinds as Visual-is-fresh-kinds
+use Rattle.records.proofs.VisualRecord.is_fresh.Reads as Visual-is-fresh-reads
+use Rattle.records.proofs.VisualRecord.is_sound.Kinds as Visual-is-sound-kinds
+use Rattle.records.proofs.VisualRecord.is_sound.Reads as Visual-is-sound-reads
+use Rattle.records.proofs.ArabicFrenchRecord.is_fresh.Kinds as ArabicFrench-is-fresh-kinds
+use Rattle.records.proofs.ArabicFrenchRecord.is_fresh.Reads as ArabicFrench-is-fresh-reads
+use Rattle.records.proofs.ArabicFrenchRecord.is_sound.Kinds as ArabicFrench-is-sound-kinds
+use Rattle.records.proofs.ArabicFrenchRecord.is_sound.Reads as ArabicFrench-is-sound-reads
+use Rattle.records.proofs.ShiftJisRecord.is_fresh.Kinds as ShiftJis-is-fresh-kinds
+use Rattle.records.proofs.ShiftJisRecord.is_fresh.Reads as ShiftJis-is-fresh-reads
+use Rattle.records.proofs.ShiftJisRecord.is_sound.Kinds as ShiftJis-is-sound-kinds
+use Rattle.records.proofs.ShiftJisRecord.is_sound.Reads as ShiftJis-is-sound-reads
 
-pub fresh_is_fresh_utf8 : Determined 0 fresh-is-fresh-utf8-kinds.ps fresh-is-fresh-utf8-kinds.r fresh-is-fresh-utf8-reads.Asked fresh-is-fresh-utf8-reads.Learnt
-fresh_is_fresh_utf8 = record { total = λ κs a. tt; one = λ κs a z z' w w' p q. (same p q, refl) }
+pub utf8_is_fresh : Determined 0 Utf8-is-fresh-kinds.ps Utf8-is-fresh-kinds.r Utf8-is-fresh-reads.Asked Utf8-is-fresh-reads.Learnt
+utf8_is_fresh = record { total = λ κs a. tt; one = λ κs a z z' w w' p q. (same p q, refl) }
 
-pub fresh_is_fresh_iso2022jp : Determined 0 fresh-is-fresh-iso2022jp-kinds.ps fresh-is-fresh-iso2022jp-kinds.r fresh-is-fresh-iso2022jp-reads.Asked fresh-is-fresh-iso2022jp-reads.Learnt
-fresh_is_fresh_iso2022jp = record { total = λ κs a. tt; one = λ κs a z z' w w' p q. (same p q, refl) }
+pub utf8_is_sound : Determined 0 Utf8-is-sound-kinds.ps Utf8-is-sound-kinds.r Utf8-is-sound-reads.Asked Utf8-is-sound-reads.Learnt
+utf8_is_sound = record { total = λ κs a. tt; one = λ κs a z z' w w' p q. (same p q, refl) }
 
-pub fresh_is_fresh_euckr : Determined 0 fresh-is-fresh-euckr-kinds.ps fresh-is-fresh-euckr-kinds.r fresh-is-fresh-euckr-reads.Asked fresh-is-fresh-euckr-reads.Learnt
-fresh_is_fresh_euckr = record { total = λ κs a. tt; one = λ κs a z z' w w' p q. (same p q, refl) }
+pub iso2022jp_is_fresh : Determined 0 Iso2022Jp-is-fresh-kinds.ps Iso2022Jp-is-fresh-kinds.r Iso2022Jp-is-fresh-reads.Asked Iso2022Jp-is-fresh-reads.Learnt
+iso2022jp_is_fresh = record { total = λ κs a. tt; one = λ κs a z z' w w' p q. (same p q, refl) }
 
-pub fresh_is_fresh_big5 : Determined 0 fresh-is-fresh-big5-kinds.ps fresh-is-fresh-big5-kinds.r fresh-is-fresh-big5-reads.Asked fresh-is-fresh-big5-reads.Learnt
-fresh_is_fresh_big5 = record { total = λ κs a. tt; one = λ κs a z z' w w' p q. (same p q, refl) }
+pub iso2022jp_is_sound : Determined 0 Iso2022Jp-is-sound-kinds.ps Iso2022Jp-is-sound-kinds.r Iso2022Jp-is-sound-reads.Asked Iso2022Jp-is-sound-reads.Learnt
+iso2022jp_is_sound = record { total = λ κs a. tt; one = λ κs a z z' w w' p q. (same p q, refl) }
 
-pub fresh_is_fresh_caseless : Determined 0 fresh-is-fresh-caseless-kinds.ps fresh-is-fresh-caseless-kinds.r fresh-is-fresh-caseless-reads.Asked fresh-is-fresh-caseless-reads.Learnt
-fresh_is_fresh_caseless = record { total = λ κs a. tt; one = λ κs a z z' w w' p q. (same p q, refl) }
+pub euckr_is_fresh : Determined 0 EucKr-is-fresh-kinds.ps EucKr-is-fresh-kinds.r EucKr-is-fresh-reads.Asked EucKr-is-fresh-reads.Learnt
+euckr_is_fresh = record { total = λ κs a. tt; one = λ κs a z z' w w' p q. (same p q, refl) }
 
-pub fresh_is_fresh_logical : Determined 0 fresh-is-fresh-logical-kinds.ps fresh-is-fresh-logical-kinds.r fresh-is-fresh-logical-reads.Asked fresh-is-fresh-logical-reads.Learnt
-fresh_is_fresh_logical = record { total = λ κs a. tt; one = λ κs a z z' w w' p q. (same p q, refl) }
+pub euckr_is_sound : Determined 0 EucKr-is-sound-kinds.ps EucKr-is-sound-kinds.r EucKr-is-sound-reads.Asked EucKr-is-sound-reads.Learnt
+euckr_is_sound = record { total = λ κs a. tt; one = λ κs a z z' w w' p q. (same p q, refl) }
 
-pub fresh_is_fresh_visual : Determined 0 fresh-is-fresh-visual-kinds.ps fresh-is-fresh-visual-kinds.r fresh-is-fresh-visual-reads.Asked fresh-is-fresh-visual-reads.Learnt
-fresh_is_fresh_visual = record { total = λ κs a. tt; one = λ κs a z z' w w' p q. (same p q, refl) }
+pub big5_is_fresh : Determined 0 Big5-is-fresh-kinds.ps Big5-is-fresh-kinds.r Big5-is-fresh-reads.Asked Big5-is-fresh-reads.Learnt
+big5_is_fresh = record { total = λ κs a. tt; one = λ κs a z z' w w' p q. (same p q, refl) }
 
-pub fresh_is_fresh_arabic_french : Determined 0 fresh-is-fresh-arabic-french-kinds.ps fresh-is-fresh-arabic-french-kinds.r fresh-is-fresh-arabic-french-reads.Asked fresh-is-fresh-arabic-french-reads.Learnt
-fresh_is_fresh_arabic_french = record { total = λ κs a. tt; one = λ κs a z z' w w' p q. (same p q, refl) }
+pub big5_is_sound : Determined 0 Big5-is-sound-kinds.ps Big5-is-sound-kinds.r Big5-is-sound-reads.Asked Big5-is-sound-reads.Learnt
+big5_is_sound = record { total = λ κs a. tt; one = λ κs a z z' w w' p q. (same p q, refl) }
 
-pub fresh_is_fresh_shift_jis : Determined 0 fresh-is-fresh-shift-jis-kinds.ps fresh-is-fresh-shift-jis-kinds.r fresh-is-fresh-shift-jis-reads.Asked fresh-is-fresh-shift-jis-reads.Learnt
-fresh_is_fresh_shift_jis = record { total = λ κs a. tt; one = λ κs a z z' w w' p q. (same p q, refl) }
+pub caseless_is_fresh : Determined 0 Caseless-is-fresh-kinds.ps Caseless-is-fresh-kinds.r Caseless-is-fresh-reads.Asked Caseless-is-fresh-reads.Learnt
+caseless_is_fresh = record { total = λ κs a. tt; one = λ κs a z z' w w' p q. (same p q, refl) }
 
-pub sound_is_sound_caseless : Determined 0 sound-is-sound-caseless-kinds.ps sound-is-sound-caseless-kinds.r sound-is-sound-caseless-reads.Asked sound-is-sound-caseless-reads.Learnt
-sound_is_sound_caseless = record { total = λ κs a. tt; one = λ κs a z z' w w' p q. (same p q, refl) }
+pub caseless_is_sound : Determined 0 Caseless-is-sound-kinds.ps Caseless-is-sound-kinds.r Caseless-is-sound-reads.Asked Caseless-is-sound-reads.Learnt
+caseless_is_sound = record { total = λ κs a. tt; one = λ κs a z z' w w' p q. (same p q, refl) }
 
-pub sound_is_sound_logical : Determined 0 sound-is-sound-logical-kinds.ps sound-is-sound-logical-kinds.r sound-is-sound-logical-reads.Asked sound-is-sound-logical-reads.Learnt
-sound_is_sound_logical = record { total = λ κs a. tt; one = λ κs a z z' w w' p q. (same p q, refl) }
+pub logical_is_fresh : Determined 0 Logical-is-fresh-kinds.ps Logical-is-fresh-kinds.r Logical-is-fresh-reads.Asked Logical-is-fresh-reads.Learnt
+logical_is_fresh = record { total = λ κs a. tt; one = λ κs a z z' w w' p q. (same p q, refl) }
 
-pub sound_is_sound_visual : Determined 0 sound-is-sound-visual-kinds.ps sound-is-sound-visual-kinds.r sound-is-sound-visual-reads.Asked sound-is-sound-visual-reads.Learnt
-sound_is_sound_visual = record { total = λ κs a. tt; one = λ κs a z z' w w' p q. (same p q, refl) }
+pub logical_is_sound : Determined 0 Logical-is-sound-kinds.ps Logical-is-sound-kinds.r Logical-is-sound-reads.Asked Logical-is-sound-reads.Learnt
+logical_is_sound = record { total = λ κs a. tt; one = λ κs a z z' w w' p q. (same p q, refl) }
 
-pub sound_is_sound_arabic_french : Determined 0 sound-is-sound-arabic-french-kinds.ps sound-is-sound-arabic-french-kinds.r sound-is-sound-arabic-french-reads.Asked sound-is-sound-arabic-french-reads.Learnt
-sound_is_sound_arabic_french = record { total = λ κs a. tt; one = λ κs a z z' w w' p q. (same p q, refl) }
+pub visual_is_fresh : Determined 0 Visual-is-fresh-kinds.ps Visual-is-fresh-kinds.r Visual-is-fresh-reads.Asked Visual-is-fresh-reads.Learnt
+visual_is_fresh = record { total = λ κs a. tt; one = λ κs a z z' w w' p q. (same p q, refl) }
+
+pub visual_is_sound : Determined 0 Visual-is-sound-kinds.ps Visual-is-sound-kinds.r Visual-is-sound-reads.Asked Visual-is-sound-reads.Learnt
+visual_is_sound = record { total = λ κs a. tt; one = λ κs a z z' w w' p q. (same p q, refl) }
+
+pub arabicfrench_is_fresh : Determined 0 ArabicFrench-is-fresh-kinds.ps ArabicFrench-is-fresh-kinds.r ArabicFrench-is-fresh-reads.Asked ArabicFrench-is-fresh-reads.Learnt
+arabicfrench_is_fresh = record { total = λ κs a. tt; one = λ κs a z z' w w' p q. (same p q, refl) }
+
+pub arabicfrench_is_sound : Determined 0 ArabicFrench-is-sound-kinds.ps ArabicFrench-is-sound-kinds.r ArabicFrench-is-sound-reads.Asked ArabicFrench-is-sound-reads.Learnt
+arabicfrench_is_sound = record { total = λ κs a. tt; one = λ κs a z z' w w' p q. (same p q, refl) }
+
+pub shiftjis_is_fresh : Determined 0 ShiftJis-is-fresh-kinds.ps ShiftJis-is-fresh-kinds.r ShiftJis-is-fresh-reads.Asked ShiftJis-is-fresh-reads.Learnt
+shiftjis_is_fresh = record { total = λ κs a. tt; one = λ κs a z z' w w' p q. (same p q, refl) }
+
+pub shiftjis_is_sound : Determined 0 ShiftJis-is-sound-kinds.ps ShiftJis-is-sound-kinds.r ShiftJis-is-sound-reads.Asked ShiftJis-is-sound-reads.Learnt
+shiftjis_is_sound = record { total = λ κs a. tt; one = λ κs a z z' w w' p q. (same p q, refl) }

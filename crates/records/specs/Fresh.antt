@@ -1,5 +1,5 @@
 -- The test whether a machine is the fresh one of its kind.
-use Rattle.std.specs.Prelude.{Bool, true, false, not, ◌&&◌, ℕ, eqb}
+use Rattle.std.specs.Prelude.{Bool, true, false, not, ◌&&◌, ℕ, eqb, None, Some, Option, ℤ}
 use Rattle.big5.specs.declared.Big5.{Big5 as Big5Record}
 use Rattle.big5.specs.declared.LatinCj.{LatinCj}
 use Rattle.big5.specs.declared.LatinCj.TheVariants as J
@@ -11,8 +11,6 @@ use Rattle.iso2022jp.specs.declared.DecoderState.TheVariants as D
 use Rattle.iso2022jp.specs.declared.Iso2022Jp.{Iso2022Jp as Iso2022JpRecord}
 use Rattle.iso2022jp.specs.declared.OutputState.{OutputState}
 use Rattle.iso2022jp.specs.declared.OutputState.TheVariants as O
-use Rattle.pairs.specs.declared.Held.{Held}
-use Rattle.pairs.specs.declared.Held.TheVariants as H
 use Rattle.arabic_french.specs.declared.ArabicFrench.{ArabicFrench as ArabicFrenchRecord}
 use Rattle.arabic_french.specs.declared.LatinCaseState.{LatinCaseState}
 use Rattle.arabic_french.specs.declared.LatinCaseState.TheVariants as S
@@ -45,9 +43,9 @@ ascii_out O.LeadByte = false
 unfoldable pub fresh_iso2022_jp_b : Iso2022JpRecord → Bool
 fresh_iso2022_jp_b m = ascii_state m.state && (ascii_out m.out && (eqb m.lead 0 && not m.output))
 
-abbrev pub empty_b : Held → Bool
-empty_b H.Nothing = true
-empty_b (H.Score s) = false
+abbrev pub empty_b : Option ℤ → Bool
+empty_b None = true
+empty_b (Some s) = false
 
 abbrev pub other_korean : LatinKorean → Bool
 other_korean K.Other = true

@@ -1,8 +1,7 @@
 // Reads the replay format from standard input and prints its answers (docs/REPLAY.md).
 #![tactic(auto)]
 
-// A descriptor that each program has.
-const STDIN_FILENO: i32 = 0;
+use scribe::STDIN_FILENO;
 
 fn main() {
     play::play(STDIN_FILENO, true);

@@ -1,9 +1,8 @@
 // A group of cases: each is a pair of states, both fed.
 use crate::rows::Rows;
 use crate::tally::Tally;
-use crate::{lent, rows, same, tally};
+use crate::{lent, rows, tally};
 use scribe::STDOUT_FILENO;
-use state::State;
 
 #[derive(Clone, Copy)]
 pub(crate) struct Group {
@@ -17,10 +16,6 @@ pub(crate) struct Group {
 
 fn counted(n: u64, more: bool) -> u64 {
     if more { n % 1_000_000 + 1 } else { n }
-}
-
-fn apart(a: State, b: State) -> bool {
-    !same::same(a, b)
 }
 
 impl Group {
@@ -45,8 +40,8 @@ impl Group {
         let tally_b = self.second;
         Group {
             pairs: counted(self.pairs, true),
-            before: counted(self.before, apart(a, b)),
-            after: counted(self.after, apart(a_after, b_after)),
+            before: counted(self.before, a != b),
+            after: counted(self.after, a_after != b_after),
             first: tally_a.with(a, fed_a),
             second: tally_b.with(b, fed_b),
         }

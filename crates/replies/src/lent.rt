@@ -8,6 +8,7 @@ use detector::feed;
 use detector::feed::Fed;
 use lengths::{BIG5, CLASSES, EUC_KR, EXTRAS, JIS, MARKS, PAIRS, WEIGHTS};
 use state::State;
+use tables::{Single, Tables};
 
 fn class(b: usize) -> u8 {
     match b {
@@ -16,14 +17,6 @@ fn class(b: usize) -> u8 {
         0xE0..=0xFA => 2,
         0xFF => 255,
         _ => 0,
-    }
-}
-
-fn fill_classes(classes: &mut [u8]) {
-    let mut b: usize = 0;
-    while b < classes.len() {
-        classes[b] = class(b);
-        b += 1;
     }
 }
 
@@ -50,17 +43,24 @@ fn length(rows: &Rows, k: u64, exact: u64, most: usize) -> usize
     at_most(exact, most)
 }
 
-// The tables of the single-byte places, each cut to its length.
-fn lend_singles(
+// A single-byte place's tables, each cut to its length, the first of them as slice k.
+fn cut<'a>(single: &Single<'a>, rows: &Rows, k: u64) -> Single<'a>
+    requires { k < 100 }
+{
+    Single {
+        classes: &single.classes[0..length(rows, k, CLASSES as u64, single.classes.len())],
+        marks: &single.marks[0..length(rows, k + 1, MARKS as u64, single.marks.len())],
+        pairs: &single.pairs[0..length(rows, k + 2, PAIRS as u64, single.pairs.len())],
+    }
+}
+
+// Over slices of the three, of one index and of the rest.
+fn lend(
     state: State,
     rows: &Rows,
     chunk: &[u8],
-    classes: &[u8],
-    marks: &[u8],
-    pairs: &[i16],
-    big5: &[u32],
-    euckr: &[u32],
-    jis: &[u32],
+    single: &Single,
+    index: &[u32],
     extras: &[i16],
     weights: &[i32],
 ) -> Fed {
@@ -68,68 +68,44 @@ fn lend_singles(
         state,
         chunk,
         rows::flag(rows, FEED, b'l', 0),
-        &classes[0..length(rows, 1, CLASSES as u64, classes.len())],
-        &marks[0..length(rows, 2, MARKS as u64, marks.len())],
-        &pairs[0..length(rows, 3, PAIRS as u64, pairs.len())],
-        &classes[0..length(rows, 4, CLASSES as u64, classes.len())],
-        &marks[0..length(rows, 5, MARKS as u64, marks.len())],
-        &pairs[0..length(rows, 6, PAIRS as u64, pairs.len())],
-        &classes[0..length(rows, 7, CLASSES as u64, classes.len())],
-        &marks[0..length(rows, 8, MARKS as u64, marks.len())],
-        &pairs[0..length(rows, 9, PAIRS as u64, pairs.len())],
-        &classes[0..length(rows, 10, CLASSES as u64, classes.len())],
-        &marks[0..length(rows, 11, MARKS as u64, marks.len())],
-        &pairs[0..length(rows, 12, PAIRS as u64, pairs.len())],
-        big5,
-        euckr,
-        jis,
-        extras,
-        weights,
-    )
-}
-
-fn lend(
-    state: State,
-    rows: &Rows,
-    chunk: &[u8],
-    classes: &[u8],
-    marks: &[u8],
-    pairs: &[i16],
-    index: &[u32],
-    extras: &[i16],
-    weights: &[i32],
-) -> Fed {
-    lend_singles(
-        state,
-        rows,
-        chunk,
-        classes,
-        marks,
-        pairs,
-        &index[0..length(rows, 13, BIG5 as u64, index.len())],
-        &index[0..length(rows, 14, EUC_KR as u64, index.len())],
-        &index[0..length(rows, 15, JIS as u64, index.len())],
-        &extras[0..length(rows, 16, EXTRAS as u64, extras.len())],
-        &weights[0..length(rows, 17, WEIGHTS as u64, weights.len())],
+        &Tables {
+            caseless: cut(single, rows, 1),
+            logical: cut(single, rows, 4),
+            visual: cut(single, rows, 7),
+            arabic_french: cut(single, rows, 10),
+            big5: &index[0..length(rows, 13, BIG5 as u64, index.len())],
+            euckr: &index[0..length(rows, 14, EUC_KR as u64, index.len())],
+            jis: &index[0..length(rows, 15, JIS as u64, index.len())],
+            extras: &extras[0..length(rows, 16, EXTRAS as u64, extras.len())],
+            weights: &weights[0..length(rows, 17, WEIGHTS as u64, weights.len())],
+        },
     )
 }
 
 // Only class 2 is alphabetic; 10 for class 2 after class 2; case, Latin adjacency, Big5 PUA.
 fn over(state: State, rows: &Rows, chunk: &[u8]) -> Fed {
-    let mut classes = [0u8; CLASSES + 1];
     let mut marks = [0u8; MARKS + 1];
     let mut pairs = [0i16; PAIRS + 1];
-    let index = [0u32; EUC_KR + 1];
-    let extras = [0i16; EXTRAS + 1];
     let mut weights = [0i32; WEIGHTS + 1];
     marks[2] = 1;
     pairs[258] = 10;
     weights[0] = -3;
     weights[1] = -5;
     weights[7] = -7;
-    fill_classes(&mut classes);
+    let classes: [u8; CLASSES + 1] = std::array::from_fn(class);
+    let single = Single {
+        classes: &classes,
+        marks: &marks,
+        pairs: &pairs,
+    };
     lend(
-        state, rows, chunk, &classes, &marks, &pairs, &index, &extras, &weights,
+        state,
+        rows,
+        chunk,
+        &single,
+        &[0; EUC_KR + 1],
+        &[0; EXTRAS + 1],
+        &weights,
     )
 }
 

@@ -8,20 +8,24 @@ mod group;
 mod lent;
 mod pen;
 mod rows;
-mod same;
 mod script;
 mod starts;
 mod tally;
 
 use lines::show;
 use rows::{FEED, NUMBERS, UNSET};
+use scribe::page::Page;
 use scribe::{STDIN_FILENO, STDOUT_FILENO};
 use state::State;
+use std::convert::AsSlice;
 
+// `bench` has this too. Shared, it would be a public function, and no contract can say what it prints.
+// Printed by `io::write_all`: `println!` gives each call a `Result` to be thrown away.
 fn print_state(state: State) {
     let mut text = [0u8; 2048];
-    let end = show::state(&mut text, 0, state);
-    io::write_all(STDOUT_FILENO, &text[..end]);
+    let mut out = Page::new(&mut text, 0);
+    show::state(&mut out, state);
+    io::write_all(STDOUT_FILENO, out.as_slice());
 }
 
 // Document 01's printed case.

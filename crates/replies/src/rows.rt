@@ -7,17 +7,16 @@
 // A number that is not set is that of a stream of ten bytes, one of them non-ASCII, with every place fresh at score 0, to
 // which four bytes are fed, not the last, over slices of the right lengths; but d is 0, which is in order in every stream. A
 // place without a score is not in the slate.
-use arabic_french::{ArabicFrench, LatinCaseState};
-use big5::{Big5, LatinCj};
+use arabic_french::ArabicFrench;
+use big5::Big5;
 use caseless_script::Caseless;
 use context::Context;
-use euckr::{EucKr, LatinKorean};
-use iso2022jp::{DecoderState, Iso2022Jp, OutputState};
+use euckr::EucKr;
+use iso2022jp::Iso2022Jp;
 use kinds::machine::Machine;
-use laws::Reason;
+use lines::numbered::{CASES, CJS, KOREANS, OUTPUTS, REASONS, STATES};
 use logical::Logical;
-use pairs::Held;
-use places::place::{Place, Score};
+use places::place::{NoScore, Place, Score};
 use shift_jis::ShiftJis;
 use state::State;
 use state::front::Front;
@@ -62,50 +61,17 @@ fn utf8(rows: &Rows, k: usize) -> Machine {
     })
 }
 
-fn decoder(n: u64) -> DecoderState {
-    match n {
-        0 => DecoderState::Ascii,
-        1 => DecoderState::Roman,
-        2 => DecoderState::Katakana,
-        3 => DecoderState::LeadByte,
-        4 => DecoderState::TrailByte,
-        5 => DecoderState::EscapeStart,
-        _ => DecoderState::Escape,
-    }
-}
-
-fn output(n: u64) -> OutputState {
-    match n {
-        0 => OutputState::Ascii,
-        1 => OutputState::Roman,
-        2 => OutputState::Katakana,
-        _ => OutputState::LeadByte,
-    }
-}
-
 fn iso2022jp(rows: &Rows, k: usize) -> Machine {
     Machine::Iso2022Jp(Iso2022Jp {
-        state: decoder(number(rows, k, b'a', 0)),
-        out: output(number(rows, k, b'b', 0)),
+        state: STATES[number(rows, k, b'a', 0).min(6) as usize],
+        out: OUTPUTS[number(rows, k, b'b', 0).min(3) as usize],
         lead: byte(rows, k, b'c', 0),
         output: flag(rows, k, b'd', 0),
     })
 }
 
-fn held(rows: &Rows, k: usize) -> Held {
-    if flag(rows, k, b'e', 0) {
-        return Held::Score(signed::of_bits64(number(rows, k, b'z', 0)));
-    }
-    Held::Nothing
-}
-
-fn korean(n: u64) -> LatinKorean {
-    match n {
-        0 => LatinKorean::AsciiLetter,
-        1 => LatinKorean::Hangul,
-        2 => LatinKorean::Hanja,
-        _ => LatinKorean::Other,
-    }
+fn held(rows: &Rows, k: usize) -> Option<i64> {
+    flag(rows, k, b'e', 0).then(|| signed::of_bits64(number(rows, k, b'z', 0)))
 }
 
 fn euckr(rows: &Rows, k: usize) -> Machine {
@@ -113,24 +79,16 @@ fn euckr(rows: &Rows, k: usize) -> Machine {
         lead: byte(rows, k, b'a', 0),
         prev_byte: byte(rows, k, b'b', 0),
         prev_was_euc_range: flag(rows, k, b'c', 0),
-        prev: korean(number(rows, k, b'd', 3)),
+        prev: KOREANS[number(rows, k, b'd', 3).min(3) as usize],
         current_word_len: number(rows, k, b'x', 0),
         held: held(rows, k),
     })
 }
 
-fn cj(n: u64) -> LatinCj {
-    match n {
-        0 => LatinCj::AsciiLetter,
-        1 => LatinCj::Cj,
-        _ => LatinCj::Other,
-    }
-}
-
 fn big5(rows: &Rows, k: usize) -> Machine {
     Machine::Big5(Big5 {
         lead: byte(rows, k, b'a', 0),
-        prev: cj(number(rows, k, b'd', 2)),
+        prev: CJS[number(rows, k, b'd', 2).min(2) as usize],
         prev_byte: byte(rows, k, b'b', 0),
         held: held(rows, k),
     })
@@ -166,19 +124,10 @@ fn visual(rows: &Rows, k: usize) -> Machine {
     })
 }
 
-fn case(n: u64) -> LatinCaseState {
-    match n {
-        0 => LatinCaseState::Space,
-        1 => LatinCaseState::Upper,
-        2 => LatinCaseState::Lower,
-        _ => LatinCaseState::AllCaps,
-    }
-}
-
 fn arabic_french(rows: &Rows, k: usize) -> Machine {
     Machine::ArabicFrench(ArabicFrench {
         prev: byte(rows, k, b'a', 0),
-        case_state: case(number(rows, k, b'c', 0)),
+        case_state: CASES[number(rows, k, b'c', 0).min(3) as usize],
         prev_ascii: flag(rows, k, b'b', 1),
         current_word_len: number(rows, k, b'x', 0),
         longest_word: number(rows, k, b'y', 0),
@@ -205,22 +154,14 @@ fn machine(rows: &Rows, k: usize) -> Machine {
     }
 }
 
-fn reason(n: u64) -> Reason {
-    match n {
-        1 => Reason::Class255,
-        2 => Reason::BadByte,
-        3 => Reason::BadSecondByte,
-        4 => Reason::BrokenEscape,
-        5 => Reason::CutAtClose,
-        _ => Reason::NotInSlate,
-    }
-}
-
 fn score(rows: &Rows, k: usize) -> Score {
     if flag(rows, k, b'n', 0) {
-        return Score::None(reason(number(rows, k, b'r', 6)), number(rows, k, b'p', 0));
+        return Err(NoScore {
+            reason: REASONS[number(rows, k, b'r', 6).min(6) as usize],
+            at: number(rows, k, b'p', 0),
+        });
     }
-    Score::Live(signed::of_bits64(number(rows, k, b's', 0)))
+    Ok(signed::of_bits64(number(rows, k, b's', 0)))
 }
 
 fn place(rows: &Rows, k: usize) -> Place {

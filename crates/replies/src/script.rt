@@ -61,9 +61,7 @@ pub(crate) fn run(text: &[u8]) {
         pen: Pen::fresh(),
         group: Group::fresh(),
     };
-    let mut i: usize = 0;
-    while i < text.len() {
-        s = turn(s, text[i], &mut first, &mut second);
-        i += 1;
+    for &c in text {
+        s = turn(s, c, &mut first, &mut second);
     }
 }

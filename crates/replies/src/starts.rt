@@ -2,7 +2,7 @@
 // to the first. The 512 that are accepted and as many that are refused are fed a closing chunk, which both take.
 use crate::rows::{FEED, NUMBERS, Rows, UNSET};
 use crate::{lent, rows, tally};
-use places::place::{PLACES, Score, Slate};
+use places::place::Slate;
 use scribe::STDOUT_FILENO;
 use state::{Started, State};
 
@@ -20,18 +20,10 @@ fn expected(bits: u16) -> u8 {
 
 // The places that take part, as bits.
 fn taking_part(places: Slate) -> u16 {
-    let mut bits = 0;
-    let mut left = PLACES;
-    while 0 < left {
-        left -= 1;
-        let place = places[left];
-        let score = place.score;
-        bits = std::num::wrapping_add_u16(bits, bits);
-        if let Score::Live(_) = score {
-            bits = std::num::wrapping_add_u16(bits, 1);
-        }
-    }
-    bits
+    places.iter().rev().fold(0, |bits, place| {
+        bits.wrapping_add(bits)
+            .wrapping_add(u16::from(place.score.is_ok()))
+    })
 }
 
 fn is_fed(bits: u16, state: State, chunk: &Rows) -> bool {
@@ -82,15 +74,12 @@ pub(crate) fn run() {
     let mut chunk = [UNSET; NUMBERS];
     rows::set(&mut chunk, FEED, b'b', 1);
     rows::set(&mut chunk, FEED, b'l', 1);
-    let mut starts = Starts {
+    let starts = Starts {
         accepted: 0,
         refused: 0,
         differ: 0,
     };
-    let mut bits: u32 = 0;
-    while bits < 65536 {
-        starts = starts.with((bits % 65536) as u16, &chunk);
-        bits += 1;
-    }
-    starts.print();
+    (0..=u16::MAX)
+        .fold(starts, |starts, bits| starts.with(bits, &chunk))
+        .print();
 }

@@ -1,5 +1,4 @@
 // What the feeds of one group had in common.
-use crate::same;
 use detector::feed::Fed;
 use scribe::STDOUT_FILENO;
 use state::State;
@@ -12,10 +11,6 @@ pub(crate) struct Tally {
     flag: u8,
     same: u8,
     in_order: u8,
-}
-
-fn bit(b: bool) -> u8 {
-    if b { 1 } else { 0 }
 }
 
 impl Tally {
@@ -43,9 +38,9 @@ impl Tally {
         Tally {
             feeds: self.feeds % 1_000_000 + 1,
             reply: self.joined(self.reply, reply.number()),
-            flag: self.joined(self.flag, bit(reply.flag())),
-            same: self.joined(self.same, bit(same::same(before, state))),
-            in_order: self.joined(self.in_order, bit(state.is_in_order())),
+            flag: self.joined(self.flag, u8::from(reply.flag())),
+            same: self.joined(self.same, u8::from(before == state)),
+            in_order: self.joined(self.in_order, u8::from(state.is_in_order())),
         }
     }
 

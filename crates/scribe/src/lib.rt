@@ -1,4 +1,4 @@
-// The replay format's alphabet: texts and numbers, written into a buffer.
+// The replay format's alphabet: texts and numbers, written onto a page.
 #![tactic(auto)]
 
 pub mod page;

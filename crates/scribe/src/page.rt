@@ -1,29 +1,99 @@
-// A buffer and how far it is written. What finds no room falls off; each call answers where the next text goes.
+// A lent buffer (the project has no heap) and how far it is written. What finds no room falls off.
 ghost use Rattle.std.specs.Prelude.{◌≡◌, ◌<◌};
 ghost use Rattle.io.specs.Digits.{hex_digit_ascii};
-ghost use Rattle.scribe.specs.Page.{page, put, onto};
+ghost use Rattle.scribe.specs.Page.{page, put, onto, text_of};
 ghost use Rattle.scribe.specs.Text.{flag_of, hex_of, decimal_of, signed_of};
 
-pub fn byte(out: &mut [u8], at: usize, b: u8) -> usize
-    ensures { page out.new result ≡ put (page out.old at) b }
-{
-    if at < out.len() {
-        out[at] = b;
-        return at + 1;
-    }
-    out.len()
+use std::convert::AsSlice;
+use std::marker::Model;
+
+#[derive(Drop)]
+pub struct Page<'a> {
+    out: &'a mut [u8],
+    at: usize,
 }
 
-pub fn word(out: &mut [u8], at: usize, text: &[u8]) -> usize
-    ensures { page out.new result ≡ onto (page out.old at) text.now }
-{
-    let mut to = at;
-    let mut i = 0;
-    while i < text.len() {
-        to = byte(out, to, text[i]);
-        i += 1;
+impl<'a> Model for Page<'a> {
+    ghost use Rattle.scribe.specs.Page.{Page, page};
+
+    ghost Value = { Page };
+
+    ghost view = { λ p. page p.out.now p.at };
+}
+
+impl<'a> Page<'a> {
+    // A buffer that is written up to `at`.
+    pub fn new(out: &'a mut [u8], at: usize) -> Page<'a>
+        ensures { result ≡ page out.old at }
+    {
+        Page { out, at }
     }
-    to
+
+    pub fn byte(&mut self, b: u8)
+        ensures { self.new ≡ put self.old b }
+    {
+        if self.at < self.out.len() {
+            self.out[self.at] = b;
+            self.at += 1;
+        } else {
+            self.at = self.out.len();
+        }
+    }
+
+    pub fn word(&mut self, text: &[u8])
+        ensures { self.new ≡ onto self.old text.now }
+    {
+        for b in text {
+            self.byte(*b);
+        }
+    }
+
+    // Two hexadecimal digits.
+    pub fn hex(&mut self, b: u8)
+        ensures { self.new ≡ onto self.old (hex_of b) }
+    {
+        self.byte(digit(b / 16));
+        self.byte(digit(b % 16));
+    }
+
+    pub fn flag(&mut self, f: bool)
+        ensures { self.new ≡ onto self.old (flag_of f) }
+    {
+        if f {
+            self.byte(b'1');
+        } else {
+            self.byte(b'0');
+        }
+    }
+
+    pub fn decimal(&mut self, n: u64)
+        ensures { self.new ≡ onto self.old (decimal_of n) }
+    {
+        let mut digits = [0u8; 20];
+        let count = io::decimal(n, &mut digits);
+        self.word(&digits[..count]);
+    }
+
+    pub fn signed(&mut self, z: i64)
+        ensures { self.new ≡ onto self.old (signed_of z) }
+    {
+        if z < 0 {
+            self.byte(b'-');
+        }
+        self.decimal(signed::size(z));
+    }
+}
+
+// What is written.
+impl<'a> AsSlice<u8> for Page<'a> {
+    ghost items = { text_of };
+
+    fn as_slice(&self) -> &[u8] {
+        if self.at < self.out.len() {
+            return &self.out[..self.at];
+        }
+        self.out
+    }
 }
 
 fn digit(d: u8) -> u8
@@ -34,39 +104,4 @@ fn digit(d: u8) -> u8
         return 48 + d;
     }
     87 + d
-}
-
-// Two hexadecimal digits.
-pub fn hex(out: &mut [u8], at: usize, b: u8) -> usize
-    ensures { page out.new result ≡ onto (page out.old at) (hex_of b) }
-{
-    let second = byte(out, at, digit(b / 16));
-    byte(out, second, digit(b % 16))
-}
-
-pub fn flag(out: &mut [u8], at: usize, f: bool) -> usize
-    ensures { page out.new result ≡ onto (page out.old at) (flag_of f) }
-{
-    if f {
-        return byte(out, at, b'1');
-    }
-    byte(out, at, b'0')
-}
-
-pub fn decimal(out: &mut [u8], at: usize, n: u64) -> usize
-    ensures { page out.new result ≡ onto (page out.old at) (decimal_of n) }
-{
-    let mut digits = [0u8; 20];
-    let count = io::decimal(n, &mut digits);
-    word(out, at, &digits[..count])
-}
-
-pub fn signed(out: &mut [u8], at: usize, z: i64) -> usize
-    ensures { page out.new result ≡ onto (page out.old at) (signed_of z) }
-{
-    if z < 0 {
-        let digits = byte(out, at, b'-');
-        return decimal(out, digits, signed::size(z));
-    }
-    decimal(out, at, signed::size(z))
 }

@@ -1,20 +1,20 @@
 -- The printed sheet of a state: document 01's lines, and document 02's, thirteen in all, each ended by a newline.
-use Rattle.std.specs.Prelude.{List, [], ◌∷◌, ◌++◌, ℕ, suc}
+use Rattle.std.specs.Prelude.{List, [], ◌∷◌, ◌++◌, ℕ, suc, Ok, Err}
 use Rattle.names.specs.Names.{place_name}
 use Rattle.scribe.specs.Text.{ascii, newline, decimal_of, signed_of}
 use Rattle.places.specs.declared.place.Place.{Place}
-use Rattle.places.specs.declared.place.Score as score
+use Rattle.places.specs.Score.{Score}
 use Rattle.state.specs.Leader.{leader_of}
 use Rattle.state.specs.declared.State.{State}
 use Rattle.state.specs.declared.leader.Leader as leader
 
 -- a score with its sign and without leading zeros; why there is none is not told
-unfoldable pub score_text : score.Score → List ℕ
-score_text (score.TheVariants.None d at) = ascii "none"
-score_text (score.TheVariants.Live n) = signed_of n
+unfoldable pub score_text : Score → List ℕ
+score_text (Err why) = ascii "none"
+score_text (Ok n) = signed_of n
 
 -- the place with number k, by its score
-unfoldable pub place_line : ℕ → score.Score → List ℕ
+unfoldable pub place_line : ℕ → Score → List ℕ
 place_line k s = place_name k ++ ascii " " ++ score_text s ++ newline
 
 -- places in the order of their numbers, the first one's being k

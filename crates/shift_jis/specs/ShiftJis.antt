@@ -1,17 +1,14 @@
 -- The Shift_JIS machine: the pending lead. A byte changes no score.
-use Rattle.std.specs.Prelude.{◌≡◌, Bool, true, cond, ◌&&◌, ◌||◌, List, ◌⊎◌, ℕ, eqb, ℤ, get_or}
+use Rattle.std.specs.Prelude.{◌≡◌, Bool, true, cond, ◌&&◌, ◌||◌, List, ◌⊎◌, ℕ, eqb, get_or, Option, Some, None, Result}
 use Rattle.lengths.specs.Lengths.{jis_count}
-use Rattle.laws.specs.Answer.{answered, answered_if}
+use Rattle.laws.specs.Answer.{reached, tested}
 use Rattle.laws.specs.declared.Reason.TheVariants.{BadByte, CutAtClose}
-use Rattle.laws.specs.Run.{Outcome, none, live, alive, run, last_at}
+use Rattle.laws.specs.declared.Stop.{Stop}
+use Rattle.laws.specs.Run.{Outcome, none, alive, run, last_at}
 use Rattle.octets.specs.Octets.{between}
 use Rattle.entries.specs.Ready.{Ready as ReadyFor, ready_b}
 use Rattle.shift_jis.specs.Standard.{is_lead, is_trail, pointer, is_private_use, is_mapped}
 use Rattle.shift_jis.specs.declared.ShiftJis.{ShiftJis}
-use Rattle.shift_jis.specs.declared.Stepped.{Stepped}
-use Rattle.shift_jis.specs.declared.Stepped.TheVariants.{Alive, Invalid}
-use Rattle.shift_jis.specs.declared.Ran.{Ran}
-use Rattle.shift_jis.specs.declared.Ran.TheVariants.{Live, Dropped, Unfit}
 
 -- ---- records
 abbrev pub holds : ℕ → ShiftJis
@@ -55,24 +52,19 @@ unfoldable pub close_of : ShiftJis → Outcome ShiftJis
 close_of m = cond (eqb m.lead 0) (alive m) (none CutAtClose)
 
 -- ---- the code's answers
-abbrev pub out_of : Stepped → Outcome ShiftJis
-out_of (Alive m g) = live m g
-out_of Invalid = none BadByte
-
--- the change of the score, which is 0, is not told
-abbrev living : ShiftJis → ℤ → Ran
-living m s = Live m
-
-abbrev pub ran_as : ℕ → Outcome ShiftJis → Ran
-ran_as at o = answered living Dropped at o
+-- no record: the byte is bad
+abbrev pub out_of : Option ShiftJis → Outcome ShiftJis
+out_of (Some m) = alive m
+out_of None = none BadByte
 
 -- over the index of the right length
 abbrev pub Ready : List ℕ → ShiftJis → List ℕ → Type 0
 Ready index m xs = ReadyFor (Sound m) jis_count index xs
 
-unfoldable pub ran_of : List ℕ → ShiftJis → List ℕ → Ran
-ran_of index m xs = answered_if living Dropped Unfit (ready_b (sound_b m) jis_count index xs) (last_at (step_of index) (alive m) xs) (run (step_of index) (alive m) xs)
+-- the change of the score, which is 0, is not told
+unfoldable pub ran_of : List ℕ → ShiftJis → List ℕ → Result ShiftJis Stop
+ran_of index m xs = tested (ready_b (sound_b m) jis_count index xs) (reached (last_at (step_of index) (alive m) xs) (run (step_of index) (alive m) xs))
 
 -- the end takes no byte
-unfoldable pub closed_of : ShiftJis → Ran
-closed_of m = answered_if living Dropped Unfit (sound_b m) 0 (close_of m)
+unfoldable pub closed_of : ShiftJis → Result ShiftJis Stop
+closed_of m = tested (sound_b m) (reached 0 (close_of m))

@@ -4,7 +4,7 @@ use Rattle.std.proofs.Math.Bool.{false, or-true}
 use Rattle.std.proofs.Common.{inl, inr, arith, eq-eqb, eqb-true}
 use Rattle.std.proofs.Math.Logic.{⊎_elim}
 use Rattle.lengths.specs.Lengths.{jis_count}
-use Rattle.laws.specs.Answer.{if_fit}
+use Rattle.laws.specs.Answer.{reached, if_fit}
 use Rattle.laws.specs.declared.Reason.{Reason}
 use Rattle.laws.specs.declared.Reason.TheVariants.{BadByte, CutAtClose}
 use Rattle.laws.specs.Run.{Outcome, live, none, run, last_at, alive, WhenNone}
@@ -16,7 +16,7 @@ use Rattle.shift_jis.specs.Standard.{is_lead, is_trail, pointer}
 use Rattle.shift_jis.specs.Ways.{lead_cases}
 use Rattle.shift_jis.specs.declared.ShiftJis.{ShiftJis}
 use Rattle.entries.specs.Ready.{true_ready}
-use Rattle.shift_jis.specs.ShiftJis.{holds, fresh, Sound, sound_b, is_alone, first_of, is_point, trail_of, step_of, close_of, ran_as, Ready, ran_of, closed_of}
+use Rattle.shift_jis.specs.ShiftJis.{holds, fresh, Sound, sound_b, is_alone, first_of, is_point, trail_of, step_of, close_of, Ready, ran_of, closed_of}
 
 -- ---- each way through a byte where no lead is pending
 module _ (b : ℕ) where
@@ -110,10 +110,10 @@ close_reason m d e = rw e at (close_only m)
 -- ---- what a call gives
 module _ (index : List ℕ) (m : ShiftJis) (xs : List ℕ) where
   -- a caller that tested
-  pub ran_ready : Ready index m xs → ran_of index m xs ≡ ran_as (last_at (step_of index) (alive m) xs) (run (step_of index) (alive m) xs)
+  pub ran_ready : Ready index m xs → ran_of index m xs ≡ reached (last_at (step_of index) (alive m) xs) (run (step_of index) (alive m) xs)
   unfolding ran_of
-  ran_ready r = if_fit _ _ _ _ _ _ (true_ready (sound_b m) jis_count index xs (true_sound m) r)
+  ran_ready r = if_fit _ _ (true_ready (sound_b m) jis_count index xs (true_sound m) r)
 
-pub closed_ready : (m : ShiftJis) → Sound m → closed_of m ≡ ran_as 0 (close_of m)
+pub closed_ready : (m : ShiftJis) → Sound m → closed_of m ≡ reached 0 (close_of m)
 unfolding closed_of
-closed_ready m h = if_fit _ _ _ _ _ _ (true_sound m h)
+closed_ready m h = if_fit _ _ (true_sound m h)

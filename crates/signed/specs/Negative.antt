@@ -1,4 +1,4 @@
--- Negative numbers as the code takes them apart, -(z + 1), and puts them together, -k - 1.
+-- Negative numbers taken apart, -(z + 1), and put together, -k - 1: neither leaves 64 bits, where -z may.
 use Rattle.std.specs.Prelude.{◌≡◌, ℕ, zero, suc, ◌+◌, ◌-◌, ◌^◌, ◌<◌, ◌≤◌, true, false, T, ℤ, pos, negsuc, ◌+ℤ◌, ◌-ℤ◌, neg_ℤ, FitsSigned, int_lt, unsigned_abs, refl}
 use Rattle.std.proofs.Common.{ap, ◌∙◌, arith, ltb-true, le-ltb, to_z-of_z}
 use Rattle.std.proofs.Math.IntN.{+ℤ_idl, +ℤ_one, -ℤ_one}

@@ -1,10 +1,11 @@
 -- Each public function's contract asks nothing and determines the reply.
-use Rattle.std.proofs.Common.{refl}
+use Rattle.std.proofs.Common.{◌≡◌, [], refl}
+use denote.RattleType.{RattleType}
+use denote.Param.Laws.{Laws, IsCopy}
+use mathlib.Core.List.{not-mem-nil}
 use Rattle.laws.specs.Determined.{Determined, same}
 use Rattle.single.proofs.is_common.Kinds as is-common-kinds
 use Rattle.single.proofs.is_common.Reads as is-common-reads
-use Rattle.single.proofs.is_fit.Kinds as is-fit-kinds
-use Rattle.single.proofs.is_fit.Reads as is-fit-reads
 use Rattle.single.proofs.is_non_latin_alphabetic.Kinds as is-non-latin-alphabetic-kinds
 use Rattle.single.proofs.is_non_latin_alphabetic.Reads as is-non-latin-alphabetic-reads
 use Rattle.single.proofs.words_after.Kinds as words-after-kinds
@@ -21,12 +22,21 @@ use Rattle.single.proofs.pair_score.Kinds as pair-score-kinds
 use Rattle.single.proofs.pair_score.Reads as pair-score-reads
 use Rattle.single.proofs.marked_gain.Kinds as marked-gain-kinds
 use Rattle.single.proofs.marked_gain.Reads as marked-gain-reads
+use Rattle.single.proofs.machine.run.Kinds as run-kinds
+use Rattle.single.proofs.machine.run.Reads as run-reads
+use Rattle.single.proofs.machine.close.Kinds as close-kinds
+use Rattle.single.proofs.machine.close.Reads as close-reads
 
+-- ---- of every type that holds no borrow, as the records don't
+pub run : (T : RattleType) (l : Laws T) (k : IsCopy T) → T.lives ≡ [] → (s : _) (sd : _) (c : _) (cd : _) → Determined 4 (run-kinds.ps T l k) (run-kinds.r T l k) (run-reads.Asked T l k s sd c cd) (run-reads.Learnt T l k s sd c cd)
+run T l k none s sd c cd = record { total = λ κs a n m. absurd (not-mem-nil (rw none at m)); one = λ κs a z z' w w' p q. (same p.0 q.0, refl) }
+
+pub close : (T : RattleType) (l : Laws T) (k : IsCopy T) → T.lives ≡ [] → (s : _) (sd : _) (c : _) (cd : _) → Determined 3 (close-kinds.ps T l k) (close-kinds.r T l k) (close-reads.Asked T l k s sd c cd) (close-reads.Learnt T l k s sd c cd)
+close T l k none s sd c cd = record { total = λ κs a n m. absurd (not-mem-nil (rw none at m)); one = λ κs a z z' w w' p q. (same p.0 q.0, refl) }
+
+-- ----
 pub is_common : Determined 0 is-common-kinds.ps is-common-kinds.r is-common-reads.Asked is-common-reads.Learnt
 is_common = record { total = λ κs a. tt; one = λ κs a z z' w w' p q. (same p q, refl) }
-
-pub is_fit : Determined 4 is-fit-kinds.ps is-fit-kinds.r is-fit-reads.Asked is-fit-reads.Learnt
-is_fit = record { total = λ κs a. tt; one = λ κs a z z' w w' p q. (same p q, refl) }
 
 pub is_non_latin_alphabetic : Determined 1 is-non-latin-alphabetic-kinds.ps is-non-latin-alphabetic-kinds.r is-non-latin-alphabetic-reads.Asked is-non-latin-alphabetic-reads.Learnt
 is_non_latin_alphabetic = record { total = λ κs a. tt; one = λ κs a z z' w w' p q. (same p q, refl) }
@@ -49,5 +59,5 @@ is_ascii_pair = record { total = λ κs a. tt; one = λ κs a z z' w w' p q. (sa
 pub pair_score_lem : Determined 1 pair-score-kinds.ps pair-score-kinds.r pair-score-reads.Asked pair-score-reads.Learnt
 pair_score_lem = record { total = λ κs a. tt; one = λ κs a z z' w w' p q. (same p.0 q.0, refl) }
 
-pub marked_gain : Determined 3 marked-gain-kinds.ps marked-gain-kinds.r marked-gain-reads.Asked marked-gain-reads.Learnt
+pub marked_gain : Determined 2 marked-gain-kinds.ps marked-gain-kinds.r marked-gain-reads.Asked marked-gain-reads.Learnt
 marked_gain = record { total = λ κs a. tt; one = λ κs a z z' w w' p q. (same p.0 q.0, refl) }

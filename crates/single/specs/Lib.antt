@@ -12,3 +12,5 @@ pub mod Punctuation
 pub mod Rest
 pub mod Words
 pub mod WordsLaws
+pub mod Lists
+pub mod Steps

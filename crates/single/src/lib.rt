@@ -4,13 +4,15 @@
 ghost use Rattle.std.specs.Prelude.{◌≡◌, ◌*◌, ◌≤◌, unsigned_abs};
 ghost use Rattle.weights.specs.Weights.{term};
 ghost use Rattle.single.specs.Class.{alphabetic_of};
-ghost use Rattle.single.specs.Fit.{common_b, fit_b};
-ghost use Rattle.single.specs.Lent.{lent, sized_b};
+ghost use Rattle.single.specs.Fit.{common_b};
 ghost use Rattle.single.specs.Pair.{ascii_pair, beside_of, pair_score, marked_gain_of};
 ghost use Rattle.single.specs.Punctuation.{punctuation_of, count_of};
 ghost use Rattle.single.specs.Rest.{rest_b};
 ghost use Rattle.single.specs.Words.{in64, words_of};
 
+pub mod machine;
+
+// Classes are numbers and no enum: the tables that are lent have any byte as a class.
 pub const LATIN_LETTER: u8 = 1;
 
 pub const NO_CLASS: u8 = 255;
@@ -21,34 +23,21 @@ pub struct Words {
     pub longest: u64,
 }
 
-// Whether all that is lent has its length.
-fn is_sized(classes: &[u8], marks: &[u8], pairs: &[i16], weights: &[i32]) -> bool
-    ensures { result ≡ sized_b (lent classes.now marks.now pairs.now weights.now) }
-{
-    classes.len() == lengths::CLASSES
-        && (marks.len() == lengths::MARKS
-            && (pairs.len() == lengths::PAIRS && weights.len() == lengths::WEIGHTS))
+// What a single-byte machine is lent.
+#[derive(Clone, Copy)]
+pub struct Lent<'a> {
+    pub classes: &'a [u8],
+    pub marks: &'a [u8],
+    pub pairs: &'a [i16],
+    pub weights: &'a [i32],
 }
 
 // Whether no bound of n bytes excludes the fields that the four records share.
+#[tactic(auto, unfolding(crate::specs::Fit::common_b))]
 pub fn is_common(n: u64, prev: u8, word: u64, longest: u64) -> bool
     ensures { result ≡ common_b n prev word longest }
 {
     prev < 128 && (word <= n && longest <= n)
-}
-
-// The test at the entry of a public call.
-pub fn is_fit(
-    sound: bool,
-    bytes: usize,
-    classes: &[u8],
-    marks: &[u8],
-    pairs: &[i16],
-    weights: &[i32],
-) -> bool
-    ensures { result ≡ fit_b (lent classes.now marks.now pairs.now weights.now) sound bytes }
-{
-    is_sized(classes, marks, pairs, weights) && (sound && bytes <= lengths::MOST)
 }
 
 // Whether the marks say so of the class; a class that they don't reach is not alphabetic.
@@ -124,6 +113,7 @@ pub fn is_ascii_pair(prev_ascii: bool, b: u8) -> bool
 }
 
 // Whether a Latin letter and a non-Latin alphabetic class stand side by side, where it is known whether `current` is alphabetic.
+#[tactic(auto, unfolding(crate::specs::Pair::beside_of))]
 fn is_beside(prev: u8, current: u8, alphabetic: bool, marks: &[u8]) -> bool
     ensures { result ≡ beside_of marks.now alphabetic prev current }
 {
@@ -150,20 +140,13 @@ pub fn pair_score(prev: u8, current: u8, pairs: &[i16]) -> i64
 
 // The pair score of `current` after `prev`, with the adjacency weight where it applies, for a caller that knows whether `current`
 // is alphabetic.
-pub fn marked_gain(
-    prev: u8,
-    current: u8,
-    alphabetic: bool,
-    marks: &[u8],
-    pairs: &[i16],
-    weights: &[i32],
-) -> i64
-    ensures value { result ≡ marked_gain_of marks.now pairs.now weights.now alphabetic prev current }
+pub fn marked_gain(prev: u8, current: u8, alphabetic: bool, lent: &Lent) -> i64
+    ensures value { result ≡ marked_gain_of lent.now.marks.now lent.now.pairs.now lent.now.weights.now alphabetic prev current }
     ensures result_bound { unsigned_abs result ≤ 2 * term }
 {
-    let score = pair_score(prev, current, pairs);
-    if is_beside(prev, current, alphabetic, marks) {
-        return score + weights::weight(weights, weights::LATIN_ADJACENCY);
+    let score = pair_score(prev, current, lent.pairs);
+    if is_beside(prev, current, alphabetic, lent.marks) {
+        return score + weights::weight(lent.weights, weights::LATIN_ADJACENCY);
     }
     score
 }

@@ -4,7 +4,7 @@ use Rattle.std.proofs.Common.{sym, ◌∙◌, arith, drop_of_length-le, length-d
 use Rattle.std.proofs.Math.Numerals.{add-one}
 use Rattle.laws.specs.Tests.{either}
 use Rattle.scribe.specs.FitsLaws.{Fits, whole}
-use Rattle.scribe.specs.Page.{Page, page, put, onto}
+use Rattle.scribe.specs.Page.{Page, page, put, onto, text_of}
 use Rattle.scribe.specs.PageLaws.{onto_append}
 use Rattle.scribe.specs.Text.{ascii, hex_of}
 use Rattle.spot.specs.Spot.{side, slice_of, spaced_hexes, unhyphened}
@@ -34,6 +34,10 @@ stands {n} {ts} {ys} {r} xs f h e =
     let a : ys ≡ ts ++ drop (length ts) xs = cc in
     let b : r ≡ length ts = cc in
     rw (a, b) (take_at ts (drop (length ts) xs) (length ts) refl)
+
+pub text_stands : {n : ℕ} {ts : List ℕ} {p q : Page} (xs : List ℕ) → Fits n ts → n ≤ length xs → p ≡ page xs 0 → q ≡ onto p ts → text_of q ≡ ts
+unfolding text_of
+text_stands {n} {ts} xs f h d e = rw (e, d, whole n xs ts f h, take_at ts (drop (length ts) xs) (length ts) refl)
 
 -- past the end of the file there are no bytes
 past : (from to : ℕ) (file : List ℕ) → length file ≤ to → slice_of from (length file) file ≡ slice_of from to file

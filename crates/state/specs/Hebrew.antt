@@ -1,11 +1,10 @@
 -- The two orders of Hebrew. They often score nearly alike; their plausible punctuation tells in which of them a text is.
-use Rattle.std.specs.Prelude.{Bool, true, false, cond, ◌&&◌, ◌||◌, List, ℕ, eqb, ltb}
+use Rattle.std.specs.Prelude.{Bool, true, false, cond, ◌&&◌, ◌||◌, List, ℕ, eqb, ltb, Ok, Err}
 use Rattle.kinds.specs.declared.machine.Machine.{Machine}
 use Rattle.kinds.specs.declared.machine.Machine.TheVariants.{Utf8, Iso2022Jp, EucKr, Big5, Caseless, Logical, Visual, ArabicFrench, ShiftJis}
 use Rattle.places.specs.Slate.{place_at}
 use Rattle.places.specs.declared.place.Place.{Place}
-use Rattle.places.specs.declared.place.Score.{Score}
-use Rattle.places.specs.declared.place.Score.TheVariants.{None, Live}
+use Rattle.places.specs.Score.{Score}
 
 -- the numbers of their places
 abbrev pub logical : ℕ
@@ -15,8 +14,8 @@ abbrev pub visual : ℕ
 visual = 6
 
 abbrev pub has_score : Score → Bool
-has_score (None d at) = false
-has_score (Live n) = true
+has_score (Err why) = false
+has_score (Ok n) = true
 
 -- the plausible punctuation that a machine has counted; the other kinds count none
 abbrev pub plausible_punctuation : Machine → ℕ

@@ -1,17 +1,16 @@
 -- Between the two orders of Hebrew: the definition names the place that is said without tests, and no other is. The places that the
 -- code reads. Assumes nothing.
-use Rattle.std.specs.Prelude.{◌≡◌, Bool, true, false, ◌&&◌, ◌||◌, List, ◌⊎◌, ℕ, eqb, ltb, length, get_or}
+use Rattle.std.specs.Prelude.{◌≡◌, Bool, true, false, ◌&&◌, ◌||◌, List, ◌⊎◌, ℕ, eqb, ltb, length, get_or, Ok, Err}
 use Rattle.std.proofs.Math.Path.{refl}
 use Rattle.std.proofs.Common.{inl, inr, arith, lt-ltb, le-ltb, ltb-true, ltb-false, eqb-true}
 use Rattle.laws.specs.Tests.{both, either}
 use Rattle.tables.specs.Own.{place_count}
 use Rattle.places.specs.declared.place.Place.{Place}
-use Rattle.places.specs.declared.place.Score.{Score}
-use Rattle.places.specs.declared.place.Score.TheVariants as score
 use Rattle.places.specs.Slate.{place_at}
 use Rattle.places.specs.SlateLaws.{place_read}
 use Rattle.state.specs.Hebrew.{logical, visual, has_score, plausible_punctuation, is_hebrew, contested, punctuated, named_from, named_of}
 use Rattle.state.specs.Leads.{Dropped, Contested, counted, Punctuated, Named}
+use Rattle.places.specs.Score.{Score}
 
 -- ---- the two ways through the code
 module _ (ps : List Place) (k : ℕ) (d e : Place) (long : length ps ≡ place_count) where
@@ -34,12 +33,12 @@ clash : {A : Type 0} {t : Bool} → t ≡ true → t ≡ false → A
 clash p q = absurd (let z : ◌≡◌ {A = ℕ} 0 1 = cc in omega arith)
 
 score_said : (s : Score) → has_score s ≡ true → Dropped s → ⊥
-score_said (score.None d at) e h = clash e refl
-score_said (score.Live n) e h = h
+score_said (Err why) e h = clash e refl
+score_said (Ok n) e h = h
 
 score_told : (s : Score) → (Dropped s → ⊥) → has_score s ≡ true
-score_told (score.None d at) f = absurd (f tt)
-score_told (score.Live n) f = refl
+score_told (Err why) f = absurd (f tt)
+score_told (Ok n) f = refl
 
 hebrew_said : (j : ℕ) → is_hebrew j ≡ true → (j ≡ logical) ⊎ (j ≡ visual)
 hebrew_said j = pick (eqb j logical) refl

@@ -7,9 +7,8 @@ use Rattle.std.proofs.Math.ListN.{length}
 use Rattle.tables.specs.Own.{place_count}
 use Rattle.places.specs.declared.place.Place.{Place}
 use Rattle.state.specs.State.{triggered}
-use Rattle.state.specs.Leader.{better_of, best_from, leader_as, leader_of}
-use Rattle.state.specs.declared.leader.Best.{Best}
-use Rattle.state.specs.declared.leader.Best.TheVariants as best
+use Rattle.state.specs.Leader.{Best, better_of, best_from, leader_as, leader_of}
+use Rattle.std.specs.declared.option.Option.TheVariants as best
 use Rattle.state.specs.declared.leader.Leader.TheVariants.{Ascii}
 use Rattle.state.specs.declared.State.{State}
 

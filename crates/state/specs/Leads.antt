@@ -1,26 +1,25 @@
 -- What it is to lead, without the walk that finds the leader. A place has the greatest score: no place has a greater one, and each
 -- place before it has a lesser one or none. It leads, unless it is one of the two orders of Hebrew and both have scores: then the
 -- one with more plausible punctuation leads.
-use Rattle.std.specs.Prelude.{◌≡◌, true, false, List, ◌⊎◌, ℕ, ◌<◌, ◌≤◌, ℤ, length, get_or}
+use Rattle.std.specs.Prelude.{◌≡◌, true, false, List, ◌⊎◌, ℕ, ◌<◌, ◌≤◌, ℤ, length, get_or, Ok, Err}
 use Rattle.std.specs.Int.Signed.{lt_z}
 use Rattle.places.specs.declared.place.Place.{Place}
-use Rattle.places.specs.declared.place.Score.{Score}
-use Rattle.places.specs.declared.place.Score.TheVariants as score
 use Rattle.places.specs.Slate.{place_at}
 use Rattle.state.specs.Hebrew.{logical, visual, plausible_punctuation}
 use Rattle.state.specs.State.{triggered}
 use Rattle.state.specs.declared.leader.Leader.{Leader}
 use Rattle.state.specs.declared.leader.Leader.TheVariants.{Ascii, None, Place as At}
 use Rattle.state.specs.declared.State.{State}
+use Rattle.places.specs.Score.{Score}
 
 -- none, or no greater than n; none, or less than n
 abbrev pub AtMost : ℤ → Score → Type 0
-AtMost n (score.None d at) = Unit {0}
-AtMost n (score.Live m) = lt_z n m ≡ false
+AtMost n (Err why) = Unit {0}
+AtMost n (Ok m) = lt_z n m ≡ false
 
 abbrev pub Below : ℤ → Score → Type 0
-Below n (score.None d at) = Unit {0}
-Below n (score.Live m) = lt_z m n ≡ true
+Below n (Err why) = Unit {0}
+Below n (Ok m) = lt_z m n ≡ true
 
 -- P of the score of each place below k
 abbrev pub EachBelow : (Score → Type 0) → ℕ → List Place → Type 0
@@ -29,13 +28,13 @@ EachBelow P k ps = (j : ℕ) (d : Place) → j < k → P (get_or ps j d).score
 -- ---- the greatest score, the lowest place on ties
 pub record Greatest (ps : List Place) (k : ℕ) (n : ℤ) : Type 0 where
   pub within : k < length ps
-  pub there : (d : Place) → (get_or ps k d).score ≡ score.Live n
+  pub there : (d : Place) → (get_or ps k d).score ≡ Ok n
   pub greatest : EachBelow (AtMost n) (length ps) ps
   pub lowest : EachBelow (Below n) k ps
 
 abbrev pub Dropped : Score → Type 0
-Dropped (score.None d at) = Unit {0}
-Dropped (score.Live n) = ⊥
+Dropped (Err why) = Unit {0}
+Dropped (Ok n) = ⊥
 
 abbrev pub Scoreless : List Place → Type 0
 Scoreless ps = EachBelow Dropped (length ps) ps

@@ -1,28 +1,26 @@
 -- The leader leads, and nothing else does. What the walk over the places finds has the greatest score, and stands first among those
 -- that have it. Assumes nothing.
-use Rattle.std.specs.Prelude.{◌≡◌, refl, Bool, true, false, cond, List, [], ◌∷◌, ◌++◌, ℕ, suc, ◌+◌, ◌<◌, ◌≤◌, ltb, ℤ, pos, negsuc, length, get_or}
+use Rattle.std.specs.Prelude.{◌≡◌, refl, Bool, true, false, cond, List, [], ◌∷◌, ◌++◌, ℕ, suc, ◌+◌, ◌<◌, ◌≤◌, ltb, ℤ, pos, negsuc, length, get_or, Ok, Err}
 use Rattle.std.proofs.Common.{sym, ap, subst, ◌∙◌, append-nil, append_assoc, not-suc-le-zero, arith, length-append, lt-ltb, le-ltb, ltb-true, ltb-false}
 use Rattle.std.proofs.Math.ListN.{get_or-append}
 use Rattle.std.proofs.lemmas.List.{get_or_at}
 use Rattle.std.specs.Int.Signed.{lt_z}
 use Rattle.places.specs.declared.place.Place.{Place}
-use Rattle.places.specs.declared.place.Score.{Score}
-use Rattle.places.specs.declared.place.Score.TheVariants as score
 use Rattle.places.specs.Slate.{nowhere}
 use Rattle.state.specs.Hebrew.{named_of}
 use Rattle.state.specs.HebrewLaws.{named_is, named_only}
 use Rattle.state.specs.State.{triggered}
-use Rattle.state.specs.Leader.{against_best, better_of, best_from, leader_as, leader_of}
+use Rattle.state.specs.Leader.{Best, against_best, better_of, best_from, leader_as, leader_of}
 use Rattle.state.specs.Leads.{AtMost, Below, EachBelow, Greatest, Dropped, Scoreless, Leads, LeaderFor}
-use Rattle.state.specs.declared.leader.Best.{Best}
-use Rattle.state.specs.declared.leader.Best.TheVariants as best
+use Rattle.std.specs.declared.option.Option.TheVariants as best
 use Rattle.state.specs.declared.leader.Leader.{Leader}
 use Rattle.state.specs.declared.leader.Leader.TheVariants.{Ascii, None, Place as At}
 use Rattle.state.specs.declared.State.{State}
+use Rattle.places.specs.Score.{Score}
 
 abbrev IsBest : List Place → Best → Type 0
 IsBest ps best.None = Scoreless ps
-IsBest ps (best.Score k n) = Greatest ps k n
+IsBest ps (best.Some (k, n)) = Greatest ps k n
 
 -- ---- the order of scores
 irreflexive : (n : ℤ) → lt_z n n ≡ false
@@ -51,12 +49,12 @@ through (negsuc x) (pos n) (negsuc m) p q = absurd (let z : ◌≡◌ {A = ℕ} 
 through (negsuc x) (negsuc n) (negsuc m) p q = lt-ltb m x (omega (arith, ltb-false x n p, ltb-true m n q))
 
 most_below : (n m : ℤ) (s : Score) → lt_z n m ≡ true → AtMost n s → Below m s
-most_below n m (score.None d at) h a = tt
-most_below n m (score.Live x) h a = through x n m a h
+most_below n m (Err why) h a = tt
+most_below n m (Ok x) h a = through x n m a h
 
 below_most : (m : ℤ) (s : Score) → Below m s → AtMost m s
-below_most m (score.None d at) b = tt
-below_most m (score.Live x) b = asymmetric x m b
+below_most m (Err why) b = tt
+below_most m (Ok x) b = asymmetric x m b
 
 -- ---- one place more
 module _ (ps : List Place) (p : Place) where
@@ -88,7 +86,7 @@ module _ (ps : List Place) (p : Place) where
   each_to P Q k f g j d h = f (get_or ps j d).score (g j d h)
 
   -- the new place leads, where it has a score that is greater than what was known
-  leads_new : (n : ℤ) → p.score ≡ score.Live n → EachBelow (Below n) (length ps) ps → Greatest more (length ps) n
+  leads_new : (n : ℤ) → p.score ≡ Ok n → EachBelow (Below n) (length ps) ps → Greatest more (length ps) n
   leads_new n e f =
       record {
         within = omega (arith, length_more);
@@ -108,25 +106,25 @@ module _ (ps : List Place) (p : Place) where
       }
 
   dropped_below : (n : ℤ) (s : Score) → Dropped s → Below n s
-  dropped_below n (score.None d at) h = tt
-  dropped_below n (score.Live m) h = absurd h
+  dropped_below n (Err why) h = tt
+  dropped_below n (Ok m) h = absurd h
 
-  against : (b : Best) (n : ℤ) → p.score ≡ score.Live n → IsBest ps b → IsBest more (against_best b (length ps) n)
+  against : (b : Best) (n : ℤ) → p.score ≡ Ok n → IsBest ps b → IsBest more (against_best b (length ps) n)
   against best.None n e i = leads_new n e (each_to Dropped (Below n) (length ps) (dropped_below n) i)
-  against (best.Score k m) n e i = pick (lt_z m n) refl
+  against (best.Some (k, m)) n e i = pick (lt_z m n) refl
     where
-      pick : (t : Bool) → lt_z m n ≡ t → IsBest (ps ++ (p ∷ [])) (cond t (best.Score (length ps) n) (best.Score k m))
+      pick : (t : Bool) → lt_z m n ≡ t → IsBest (ps ++ (p ∷ [])) (cond t (best.Some ((length ps), n)) (best.Some (k, m)))
       pick true q = leads_new n e (each_to (AtMost m) (Below n) (length ps) (λ (s : Score) (a : AtMost m s). most_below m n s q a) i.greatest)
       pick false q = leads_old k m i (subst (AtMost m) (sym e) q)
 
   kept : (b : Best) → Dropped p.score → IsBest ps b → IsBest more b
   kept best.None h i = each_more Dropped i h
-  kept (best.Score k n) h i = leads_old k n i (below_most n p.score (dropped_below n p.score h))
+  kept (best.Some (k, n)) h i = leads_old k n i (below_most n p.score (dropped_below n p.score h))
 
   better_is : (b : Best) (s : Score) → p.score ≡ s → IsBest ps b → IsBest more (better_of b (length ps) s)
   unfolding better_of
-  better_is b (score.None d at) e i = kept b (subst Dropped (sym e) tt) i
-  better_is b (score.Live n) e i = against b n e i
+  better_is b (Err why) e i = kept b (subst Dropped (sym e) tt) i
+  better_is b (Ok n) e i = against b n e i
 
 -- ---- all places
 best_is : (ps qs : List Place) (b : Best) → IsBest ps b → IsBest (ps ++ qs) (best_from b (length ps) qs)
@@ -142,7 +140,7 @@ best_of_all ps = best_is [] ps best.None (λ (j : ℕ) (d : Place) h. absurd (no
 
 led_as : (s : State) (b : Best) → triggered s.front ≡ true → IsBest s.places b → LeaderFor s (leader_as s.places b)
 led_as s best.None e i = (e, i)
-led_as s (best.Score k n) e i = (e, record { at = k; most = n; greatest = i; named = named_is s.places k })
+led_as s (best.Some (k, n)) e i = (e, record { at = k; most = n; greatest = i; named = named_is s.places k })
 
 -- The greatest score leads, the lowest place on ties, or its rival in Hebrew; none where no place has a score; ascii before any
 -- trigger.

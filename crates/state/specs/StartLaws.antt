@@ -7,12 +7,12 @@ use Rattle.laws.specs.declared.Reason.TheVariants.{NotInSlate}
 use Rattle.tables.specs.Own.{place_count}
 use Rattle.places.specs.Slate as slate
 use Rattle.places.specs.declared.place.Place.{Place}
-use Rattle.places.specs.declared.place.Score.TheVariants.{None}
 use Rattle.state.specs.Order.{InOrder}
 use Rattle.state.specs.OrderLaws.{start_in_order}
 use Rattle.state.specs.State.{start_of, started_of}
 use Rattle.state.specs.declared.Started.{Started}
 use Rattle.state.specs.declared.reply.StartReply.TheVariants.{Accepted, NoSuchPlace}
+use Rattle.places.specs.Score.{no_score}
 
 module _ (bits : ℕ) where
   pub start_accepted : bits < 2 ^ place_count → started_of bits ≡ record { state = start_of bits; reply = Accepted }
@@ -27,6 +27,6 @@ module _ (bits : ℕ) where
   unfolding started_of
   started_in_order = either (λ (s : Started). InOrder s.state) (ltb bits (2 ^ place_count)) (λ e. start_in_order bits) (λ e. start_in_order 0)
 
-pub none_takes_part : EachFrom (λ (k : ℕ) (p : Place). p.score ≡ None NotInSlate 0) 0 (start_of 0).places
+pub none_takes_part : EachFrom (λ (k : ℕ) (p : Place). p.score ≡ no_score NotInSlate 0) 0 (start_of 0).places
 unfolding slate.start_of
 none_takes_part = (refl, (refl, (refl, (refl, (refl, (refl, (refl, (refl, (refl, tt)))))))))

@@ -5,7 +5,7 @@ ghost use Rattle.state.specs.Order.{triggerless_b, saved_b, body_b, front_b};
 
 use context::Context;
 
-#[derive(Clone, Copy)]
+#[derive(Clone, Copy, PartialEq, Eq)]
 pub struct Front {
     pub context: Context,
     pub esc_seen: bool,

@@ -13,10 +13,7 @@ const VISUAL: usize = 6;
 fn has_score(score: Score) -> bool
     ensures { result ≡ has_score score }
 {
-    match score {
-        Score::None(_, _) => false,
-        Score::Live(_) => true,
-    }
+    score.is_ok()
 }
 
 // The plausible punctuation that a machine has counted; the other kinds count none.

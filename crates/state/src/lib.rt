@@ -15,14 +15,14 @@ use places::place::Slate;
 use places::{order, slate};
 use reply::StartReply;
 
-#[derive(Clone, Copy)]
+#[derive(Clone, Copy, PartialEq, Eq)]
 pub struct State {
     pub front: Front,
     pub places: Slate,
 }
 
 // A start's state, and what is replied to it.
-#[derive(Clone, Copy)]
+#[derive(Clone, Copy, PartialEq, Eq)]
 pub struct Started {
     pub state: State,
     pub reply: StartReply,

@@ -3,7 +3,7 @@ ghost use Rattle.std.specs.Prelude.{◌≡◌};
 ghost use Rattle.state.specs.Reply.{number_of, reply_flag, start_number};
 
 // With each but the last: whether any non-ASCII byte has reached the places so far.
-#[derive(Clone, Copy)]
+#[derive(Clone, Copy, PartialEq, Eq)]
 pub enum Reply {
     Accepted(bool),
     Closed(bool),
@@ -26,6 +26,7 @@ impl Reply {
         }
     }
 
+    // Document 01 gives each reply its number and its flag, so each case has its own.
     pub fn flag(self) -> bool
         ensures { result ≡ reply_flag self }
     {
@@ -40,7 +41,7 @@ impl Reply {
 }
 
 // To a start: it has set a bit that no place has, or not.
-#[derive(Clone, Copy)]
+#[derive(Clone, Copy, PartialEq, Eq)]
 pub enum StartReply {
     Accepted,
     NoSuchPlace,

@@ -4,9 +4,10 @@
 // the reason and the place of a drop-out too.
 #![tactic(auto)]
 
-ghost use Rattle.std.specs.Prelude.{◌≡◌, ◌≤◌};
+ghost use Rattle.std.specs.Prelude.{◌≤◌};
 
-use iso2022jp::{Iso2022Jp, Ran};
+use iso2022jp::Iso2022Jp;
+use laws::Stop;
 use lengths::JIS;
 use reader::fill;
 use std::fs::File;
@@ -16,172 +17,114 @@ use tally::{Counts, Verdict};
 
 fn machine(part: &[u8], index: &[u32]) -> Verdict {
     match Iso2022Jp::fresh().run(part, index) {
-        Ran::Live(m) => match m.close() {
-            Ran::Live(_) => Verdict::of(tally::WHOLE),
-            Ran::Dropped(reason, at) => Verdict::dropped(reason, at),
-            Ran::Unfit => Verdict::of(tally::UNFIT),
+        Ok(m) => match m.close() {
+            Ok(_) => Verdict::Whole,
+            Err(Stop::Dropped(reason, at)) => Verdict::dropped(reason, at),
+            Err(Stop::Unfit) => Verdict::Unfit(0),
         },
-        Ran::Dropped(reason, at) => Verdict::dropped(reason, std::num::wrapping_add_usize(at, 1)),
-        Ran::Unfit => Verdict::of(tally::UNFIT),
+        Err(Stop::Dropped(reason, at)) => Verdict::dropped(reason, at.wrapping_add(1)),
+        Err(Stop::Unfit) => Verdict::Unfit(0),
     }
-}
-
-fn wide(b: u8) -> u32
-    ensures { result ≡ b }
-{
-    b as u32
-}
-
-fn place(b: u8) -> usize
-    ensures { result ≡ b }
-{
-    b as usize
 }
 
 // An escape after so many bytes with these last two, that is broken at one of them.
 fn broken_escape(after: usize, x: u8) -> Verdict
     requires { after ≤ 3 }
 {
-    Verdict::broken(if x == 0x24 || x == 0x28 {
-        after + 3
-    } else {
-        after + 2
+    Verdict::Broken(match x {
+        0x24 | 0x28 => after + 3,
+        _ => after + 2,
     })
 }
 
 // The five escapes.
 fn second_escape(x: u8, y: u8) -> Verdict {
-    match wide(x) * 256 + wide(y) {
-        0x2440 | 0x2442 | 0x2842 | 0x2849 | 0x284A => Verdict::of(tally::WHOLE),
+    match (x, y) {
+        (0x24, 0x40 | 0x42) | (0x28, 0x42 | 0x49 | 0x4A) => Verdict::Whole,
         _ => broken_escape(0, x),
     }
 }
 
 // A byte after the escape ESC ( or ESC $ with this last byte.
 fn second_after(last: u8, b: u8) -> Verdict {
-    if b == 0x1B {
-        return Verdict::of(tally::CUT);
-    }
-    match last {
-        0x49 => {
-            if 0x20 < b && b < 0x60 {
-                Verdict::of(tally::WHOLE)
-            } else {
-                Verdict::bad(4)
-            }
-        }
-        0x40 => {
-            if 0x20 < b && b < 0x7F {
-                Verdict::of(tally::CUT)
-            } else {
-                Verdict::bad(4)
-            }
-        }
-        _ => {
-            if 0x7F < b || b == 14 || b == 15 {
-                Verdict::bad(4)
-            } else {
-                Verdict::of(tally::WHOLE)
-            }
-        }
+    match (last, b) {
+        (_, 0x1B) => Verdict::Cut(0),
+        (0x49, 0x21..=0x5F) => Verdict::Whole,
+        (0x49, _) => Verdict::Bad(4),
+        (0x40, 0x21..=0x7E) => Verdict::Cut(0),
+        (0x40, _) => Verdict::Bad(4),
+        (_, 14 | 15 | 0x80..) => Verdict::Bad(4),
+        _ => Verdict::Whole,
     }
 }
 
-// Where a pair stands, by its row and its cell, counted from 1; 0 where it is no pair.
-fn pair_place(a: u8, b: u8) -> usize {
-    if a < 33 {
-        return 0;
+// Where a pair stands, by its row and its cell, both counted from 0.
+fn pair_place(a: u8, b: u8) -> Option<usize> {
+    match (a, b) {
+        (33..=126, 33..=126) => Some(usize::from(a - 33) * 94 + usize::from(b - 33)),
+        _ => None,
     }
-    if b < 33 {
-        return 0;
-    }
-    if 126 < a {
-        return 0;
-    }
-    if 126 < b {
-        return 0;
-    }
-    place(a - 33) * 94 + place(b - 32)
 }
 
 fn second_pair(a: u8, b: u8, index: &[u32]) -> Verdict {
     if a == 0x1B {
-        return if b == 0x24 || b == 0x28 {
-            Verdict::of(tally::CUT)
-        } else {
-            Verdict::broken(5)
+        return match b {
+            0x24 | 0x28 => Verdict::Cut(0),
+            _ => Verdict::Broken(5),
         };
     }
-    let none = Verdict::bad(if a < 33 || 126 < a { 4 } else { 5 });
-    let at = pair_place(a, b);
-    if at == 0 {
-        return none;
-    }
-    if Iso2022Jp::FIRST < at {
-        return none;
-    }
-    if index.len() < at {
-        return none;
-    }
-    if index[at - 1] == 0 {
-        none
-    } else {
-        Verdict::of(tally::WHOLE)
+    let entry = pair_place(a, b)
+        .filter(|at| *at < Iso2022Jp::FIRST)
+        .and_then(|at| index.get(at));
+    match (entry, a) {
+        (Some(1..), _) => Verdict::Whole,
+        (_, 33..=126) => Verdict::Bad(5),
+        _ => Verdict::Bad(4),
     }
 }
 
-fn low(n: u32) -> u8 {
-    (n % 256) as u8
-}
-
-// What is tried with a number's two low bytes.
-#[derive(Clone, Copy)]
-enum Sweep {
-    Escapes,
-    // the low byte, after this escape
-    After(u8, u8),
-    Pairs,
-    Twice,
-}
-
-fn tried(counts: Counts, sweep: Sweep, n: u32, index: &[u32]) -> Counts {
-    let a = low(n / 256);
-    let b = low(n);
-    match sweep {
-        Sweep::Escapes => counts.counted(machine(&[0x1B, a, b], index), second_escape(a, b)),
-        Sweep::After(second, last) => counts.counted(
-            machine(&[0x1B, second, last, b], index),
-            second_after(last, b),
-        ),
-        Sweep::Pairs => counts.counted(
-            machine(&[0x1B, 0x24, 0x42, a, b], index),
-            second_pair(a, b, index),
-        ),
-        Sweep::Twice => counts.counted(
-            machine(&[0x1B, 0x28, 0x42, 0x1B, a, b], index),
-            broken_escape(3, a),
-        ),
-    }
-}
-
-fn swept(sweep: Sweep, to: u32, index: &[u32]) -> Counts {
+// What the machine makes of each case, and the second check, of the two low bytes of each number below `to`.
+fn swept<F: Fn(u8, u8) -> (Verdict, Verdict)>(to: u32, case: F) -> Counts
+    requires { F.IsAlwaysCallable case }
+{
     let mut counts = Counts::nothing();
-    let mut n = 0;
-    while n < to {
-        counts = tried(counts, sweep, n, index);
-        n += 1;
+    for n in 0..to {
+        let (found, expected) = case((n / 256 % 256) as u8, (n % 256) as u8);
+        counts = counts.counted(found, expected);
     }
     counts
 }
 
+// The bytes after an escape.
+// Printed by `io::write_all`: `println!` gives each call a `Result` to be thrown away.
+fn print_after(second: u8, last: u8, name: &[u8], index: &[u32]) {
+    let counts = swept(256, |_, b| {
+        let found = machine(&[0x1B, second, last, b], index);
+        (found, second_after(last, b))
+    });
+    counts.print(name);
+}
+
 fn print_sweeps(index: &[u32]) {
-    swept(Sweep::Escapes, 65536, index).print(b"escapes:");
-    swept(Sweep::After(0x28, 0x42), 256, index).print(b"bytes after ESC ( B:");
-    swept(Sweep::After(0x28, 0x4A), 256, index).print(b"bytes after ESC ( J:");
-    swept(Sweep::After(0x28, 0x49), 256, index).print(b"bytes after ESC ( I:");
-    swept(Sweep::After(0x24, 0x40), 256, index).print(b"bytes after ESC $ @:");
-    swept(Sweep::Pairs, 65536, index).print(b"pairs after ESC $ B:");
-    swept(Sweep::Twice, 65536, index).print(b"escapes straight after ESC ( B:");
+    swept(
+        65536,
+        |a, b| (machine(&[0x1B, a, b], index), second_escape(a, b)),
+    )
+    .print(b"escapes:");
+    print_after(0x28, 0x42, b"bytes after ESC ( B:", index);
+    print_after(0x28, 0x4A, b"bytes after ESC ( J:", index);
+    print_after(0x28, 0x49, b"bytes after ESC ( I:", index);
+    print_after(0x24, 0x40, b"bytes after ESC $ @:", index);
+    swept(65536, |a, b| {
+        let found = machine(&[0x1B, 0x24, 0x42, a, b], index);
+        (found, second_pair(a, b, index))
+    })
+    .print(b"pairs after ESC $ B:");
+    swept(65536, |a, b| {
+        let found = machine(&[0x1B, 0x28, 0x42, 0x1B, a, b], index);
+        (found, broken_escape(3, a))
+    })
+    .print(b"escapes straight after ESC ( B:");
 }
 
 fn main(rt: HostRuntime) -> Result<()> {
@@ -191,7 +134,7 @@ fn main(rt: HostRuntime) -> Result<()> {
     drop(file);
     tally::print_count(b"bytes of the index ", got as u64);
     let mut index = [0u32; JIS];
-    fill::words(&bytes, &mut index);
+    fill::entries(&bytes, &mut index);
     tally::print_mapped(b", mapped ", &index);
     tally::print_count(b", of the first ", Iso2022Jp::FIRST as u64);
     tally::print_mapped(b" entries ", &index[0..Iso2022Jp::FIRST]);

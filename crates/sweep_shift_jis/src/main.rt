@@ -5,11 +5,12 @@
 // reason and the place of a drop-out too.
 #![tactic(auto)]
 
-ghost use Rattle.std.specs.Prelude.{◌≡◌, ◌≤◌, length};
+ghost use Rattle.std.specs.Prelude.{◌≤◌, length};
 
+use laws::Stop;
 use lengths::JIS;
 use reader::fill;
-use shift_jis::{Ran, ShiftJis};
+use shift_jis::ShiftJis;
 use std::fs::File;
 use std::io::Result;
 use std::os::fd::AsRawFd;
@@ -21,46 +22,34 @@ const PRIVATE: usize = 8836;
 const PAST: usize = 10716;
 
 // ---- the machine
-// What the parts so far leave: the machine, or what comes of the stream.
-#[derive(Clone, Copy)]
-enum Going {
-    On(ShiftJis),
-    Over(Verdict),
+// What it is that the machine stopped after so many bytes.
+fn stopped(stop: Stop, after: usize) -> Verdict {
+    match stop {
+        Stop::Dropped(reason, at) => Verdict::dropped(reason, after.wrapping_add(at)),
+        Stop::Unfit => Verdict::Unfit(0),
+    }
 }
 
-// A part more, after so many bytes.
-fn fed(going: Going, part: &[u8], after: usize, index: &[u32]) -> Going {
-    let Going::On(m) = going else {
-        return going;
-    };
-    match m.run(part, index) {
-        Ran::Live(next) => Going::On(next),
-        Ran::Dropped(reason, at) => {
-            let place = std::num::wrapping_add_usize(after, at);
-            Going::Over(Verdict::dropped(reason, std::num::wrapping_add_usize(place, 1)))
+// What comes of a stream that is fed in these parts.
+fn machine(parts: &[&[u8]], index: &[u32]) -> Verdict {
+    let mut m = ShiftJis::fresh();
+    let mut after: usize = 0;
+    for part in parts {
+        match m.run(part, index) {
+            Ok(next) => m = next,
+            Err(stop) => return stopped(stop, after.wrapping_add(1)),
         }
-        Ran::Unfit => Going::Over(Verdict::of(tally::UNFIT)),
+        after = after.wrapping_add(part.len());
     }
-}
-
-fn ended(going: Going) -> Verdict {
-    match going {
-        Going::On(m) => match m.close() {
-            Ran::Live(_) => Verdict::of(tally::WHOLE),
-            Ran::Dropped(reason, at) => Verdict::dropped(reason, at),
-            Ran::Unfit => Verdict::of(tally::UNFIT),
-        },
-        Going::Over(verdict) => verdict,
+    match m.close() {
+        Ok(_) => Verdict::Whole,
+        Err(stop) => stopped(stop, 0),
     }
-}
-
-fn machine(stream: &[u8], index: &[u32]) -> Verdict {
-    ended(fed(Going::On(ShiftJis::fresh()), stream, 0, index))
 }
 
 // ---- the second check
 // What a byte is where a character begins.
-#[derive(Clone, Copy)]
+#[derive(Clone, Copy, PartialEq, Eq)]
 enum Sort {
     Alone,
     Lead,
@@ -69,12 +58,9 @@ enum Sort {
 
 // By its two halves.
 fn sort_of(b: u8) -> Sort {
-    let low = b % 16;
-    match b / 16 {
-        8 => if low == 0 { Sort::Alone } else { Sort::Lead },
-        9 | 14 => Sort::Lead,
-        10 => if low == 0 { Sort::Never } else { Sort::Alone },
-        15 => if low < 13 { Sort::Lead } else { Sort::Never },
+    match (b / 16, b % 16) {
+        (8, 1..) | (9 | 14, _) | (15, 0..=12) => Sort::Lead,
+        (10, 0) | (15, _) => Sort::Never,
         _ => Sort::Alone,
     }
 }
@@ -90,28 +76,20 @@ fn second_row(lead: u8) -> u8 {
     }
 }
 
-// The cell of a byte in the first of a lead's two rows, and in the second, counted from 1; 0 where it has none there.
-fn first_cell(b: u8) -> u8 {
-    if b < 0x40 || 0x9E < b || b == 0x7F {
-        return 0;
+// The cell of a byte in the first of a lead's two rows, and in the second, counted from 1.
+fn first_cell(b: u8) -> Option<u8> {
+    match b {
+        0x40..=0x7E => Some(b - 63),
+        0x80..=0x9E => Some(b - 64),
+        _ => None,
     }
-    if b < 0x7F { b - 63 } else { b - 64 }
 }
 
-fn second_cell(b: u8) -> u8 {
-    if b < 0x9F {
-        return 0;
+fn second_cell(b: u8) -> Option<u8> {
+    match b {
+        0x9F..=0xFC => Some(b - 158),
+        _ => None,
     }
-    if 0xFC < b {
-        return 0;
-    }
-    b - 158
-}
-
-fn place(n: u8) -> usize
-    ensures { result ≡ n }
-{
-    n as usize
 }
 
 // Whether an entry is a character: not of ASCII, in the first plane, and no surrogate, which are the 28th of its stretches of 2,048.
@@ -121,131 +99,113 @@ fn is_character(entry: u32) -> bool {
 
 // Whether a cell of a row, both counted from 1, has a character. The rows 95 to 114 are of private use.
 fn has_character(row: u8, cell: u8, index: &[u32]) -> bool {
-    if 94 < row && row < 115 {
-        return true;
+    match row {
+        95..=114 => true,
+        _ => (usize::from(row) * 94 + usize::from(cell))
+            .checked_sub(95)
+            .and_then(|at| index.get(at))
+            .is_some_and(|entry| is_character(*entry)),
     }
-    let at = place(row) * 94 + place(cell);
-    if at < 95 {
-        return false;
-    }
-    at - 95 < index.len() && is_character(index[at - 95])
 }
 
 fn is_pair(lead: u8, b: u8, index: &[u32]) -> bool {
     let row = second_row(lead);
-    let first = first_cell(b);
-    let second = second_cell(b);
-    if 0 < first && 0 < row {
-        return has_character(row - 1, first, index);
+    if let Some(cell) = second_cell(b) {
+        return has_character(row, cell, index);
     }
-    0 < second && has_character(row, second, index)
+    let Some(cell) = first_cell(b) else {
+        return false;
+    };
+    0 < row && has_character(row - 1, cell, index)
 }
 
-// One character after the other.
+// One character after the other. A step is one byte or two, or ends the stream, so no `for` goes over the bytes.
 fn second(stream: &[u8], index: &[u32]) -> Verdict {
-    let mut i = 0;
-    while i < stream.len() {
-        match sort_of(stream[i]) {
-            Sort::Never => {
-                return Verdict::bad(i + 1);
-            }
-            Sort::Alone => {
-                i += 1;
-            }
-            Sort::Lead => {
-                if stream.len() - i < 2 {
-                    return Verdict::of(tally::CUT);
+    let mut left = stream;
+    while let [b, rest @ ..] = left {
+        left = match (sort_of(*b), rest) {
+            (Sort::Never, _) => return Verdict::Bad(stream.len() - rest.len()),
+            (Sort::Alone, _) => rest,
+            (Sort::Lead, []) => return Verdict::Cut(0),
+            (Sort::Lead, [trail, after @ ..]) => {
+                if !is_pair(*b, *trail, index) {
+                    return Verdict::Bad(stream.len() - after.len());
                 }
-                if !is_pair(stream[i], stream[i + 1], index) {
-                    return Verdict::bad(i + 2);
-                }
-                i += 2;
+                after
             }
-        }
+        };
     }
-    Verdict::of(tally::WHOLE)
+    Verdict::Whole
 }
 
 // A lead of private use and this byte: whole for every byte that has a cell.
 fn second_private(b: u8) -> Verdict {
-    if first_cell(b) == 0 && second_cell(b) == 0 {
-        return Verdict::bad(2);
+    match first_cell(b).or(second_cell(b)) {
+        Some(_) => Verdict::Whole,
+        None => Verdict::Bad(2),
     }
-    Verdict::of(tally::WHOLE)
 }
 
 // ---- sweeps
-fn low(n: u32) -> u8 {
-    (n % 256) as u8
-}
-
-// What is tried with a number's two low bytes.
-#[derive(Clone, Copy)]
-enum Sweep {
-    // the low byte by itself
-    Single,
-    Pair,
-    // both, of which the first is a lead of private use
-    Private,
-}
-
-fn tried(counts: Counts, sweep: Sweep, n: u32, index: &[u32]) -> Counts {
-    let one = [low(n)];
-    let two = [low(n / 256), low(n)];
-    match sweep {
-        Sweep::Single => counts.counted(machine(&one, index), second(&one, index)),
-        Sweep::Pair => counts.counted(machine(&two, index), second(&two, index)),
-        Sweep::Private => counts.counted(machine(&two, index), second_private(low(n))),
-    }
-}
-
-fn swept(sweep: Sweep, from: u32, to: u32, index: &[u32]) -> Counts {
+// What the machine makes of each case, and the second check, of the two low bytes of each number.
+fn swept<F: Fn(u8, u8) -> (Verdict, Verdict)>(from: u32, to: u32, case: F) -> Counts
+    requires { F.IsAlwaysCallable case }
+{
     let mut counts = Counts::nothing();
-    let mut n = from;
-    while n < to {
-        counts = tried(counts, sweep, n, index);
-        n += 1;
+    for n in from..to {
+        let (found, expected) = case((n / 256 % 256) as u8, (n % 256) as u8);
+        counts = counts.counted(found, expected);
     }
     counts
 }
 
+// Printed by `io::write_all`: `println!` gives each call a `Result` to be thrown away.
+fn print_singles(index: &[u32]) {
+    swept(
+        0,
+        256,
+        |_, b| (machine(&[&[b]], index), second(&[b], index)),
+    )
+    .print(b"single bytes:");
+}
+
 fn print_pairs(index: &[u32]) {
-    swept(Sweep::Pair, 0, 65536, index).print(b"pairs:");
+    swept(
+        0,
+        65536,
+        |a, b| (machine(&[&[a, b]], index), second(&[a, b], index)),
+    )
+    .print(b"pairs:");
 }
 
 // ---- private use
-fn set(index: &mut [u32], from: usize, to: usize, entry: u32)
-    requires { to ≤ length index.old }
-{
-    let mut i = from;
-    while i < to {
-        index[i] = entry;
-        i += 1;
-    }
-}
-
 // With this entry at the pointers just before private use and just after it; what is expected of the pairs that point there.
 fn print_beside(index: &mut [u32; JIS], entry: u32, expected: Verdict) {
     index[PRIVATE - 1] = entry;
     index[PAST] = entry;
-    let before = machine(&[0xEF, 0xFC], index);
-    let after = machine(&[0xFA, 0x40], index);
+    let before = machine(&[&[0xEF, 0xFC]], index);
+    let after = machine(&[&[0xFA, 0x40]], index);
     let counts = Counts::nothing()
         .counted(before, expected)
         .counted(after, expected);
-    tally::print_count(b"with ", entry as u64);
+    tally::print_count(b"with ", u64::from(entry));
     counts.print(b" beside it, EF FC and FA 40:");
 }
 
 // With this entry at the pointers of private use.
 fn print_private(index: &mut [u32; JIS], entry: u32) {
-    set(index, PRIVATE, PAST, entry);
-    tally::print_count(b"with ", entry as u64);
+    index[PRIVATE..PAST].fill(entry);
+    tally::print_count(b"with ", u64::from(entry));
     tally::print_word(b" in private use,\n");
-    print_beside(index, 0x3042, Verdict::of(tally::WHOLE));
-    print_beside(index, 0, Verdict::bad(2));
+    print_beside(index, 0x3042, Verdict::Whole);
+    print_beside(index, 0, Verdict::Bad(2));
     print_pairs(index);
-    swept(Sweep::Private, 0xF000, 0xFA00, index).print(b"leads F0 to F9 and any byte:");
+    swept(
+        0xF000,
+        0xFA00,
+        |a, b| (machine(&[&[a, b]], index), second_private(b)),
+    )
+    .print(b"leads F0 to F9 and any byte:");
 }
 
 // ---- cuts
@@ -257,26 +217,11 @@ struct Cuts {
     three: Counts,
 }
 
-fn in_two(stream: &[u8], cut: usize, index: &[u32]) -> Verdict
-    requires { cut ≤ length stream.now }
-{
-    let going = fed(Going::On(ShiftJis::fresh()), &stream[0..cut], 0, index);
-    ended(fed(going, &stream[cut..], cut, index))
-}
-
-fn in_three(stream: &[u8], first: usize, second: usize, index: &[u32]) -> Verdict
-    requires { (first ≤ second) × (second ≤ length stream.now) }
-{
-    let begun = fed(Going::On(ShiftJis::fresh()), &stream[0..first], 0, index);
-    let going = fed(begun, &stream[first..second], first, index);
-    ended(fed(going, &stream[second..], second, index))
-}
-
 fn counted_two(counts: Counts, stream: &[u8], index: &[u32]) -> Counts {
-    let expected = machine(stream, index);
+    let expected = machine(&[stream], index);
     let mut found = counts;
     for cut in 0..=stream.len() {
-        found = found.counted(in_two(stream, cut, index), expected);
+        found = found.counted(machine(&[&stream[..cut], &stream[cut..]], index), expected);
     }
     found
 }
@@ -285,10 +230,16 @@ fn counted_two(counts: Counts, stream: &[u8], index: &[u32]) -> Counts {
 fn counted_three(counts: Counts, stream: &[u8], second: usize, index: &[u32]) -> Counts
     requires { second ≤ length stream.now }
 {
-    let expected = machine(stream, index);
+    let expected = machine(&[stream], index);
     let mut found = counts;
     for first in 0..=second {
-        found = found.counted(in_three(stream, first, second, index), expected);
+        found = found.counted(
+            machine(
+                &[&stream[..first], &stream[first..second], &stream[second..]],
+                index,
+            ),
+            expected,
+        );
     }
     found
 }
@@ -301,11 +252,31 @@ fn with_stream(cuts: Cuts, stream: &[u8], index: &[u32]) -> Cuts {
         three = counted_three(three, stream, second, index);
     }
     Cuts {
-        one: one.counted(machine(stream, index), second(stream, index)),
+        one: one.counted(machine(&[stream], index), second(stream, index)),
         two: counted_two(two, stream, index),
         three,
     }
 }
+
+// The streams that are run whole and cut.
+const STREAMS: [&[u8]; 12] = [
+    // ASCII; katakana; pairs; all of them, with 80, private use and the index's last character
+    b"Rattle ~\\",
+    b"\xB1\xDF\xA1\xC0",
+    b"\x82\xA0\x93\xFA\x96\x7B",
+    b"A\xB1\x82\xA0\x80~\xF0\x40\xF9\xFC\xFC\x4B",
+    // a byte that is never right: first, amid others and last
+    b"\xFDAB",
+    b"A\x82\xA0\xA0\xB1",
+    b"\xB1\x83\x41\xFF",
+    // a byte that is no trail, twice, and a pair that the index lacks
+    b"B\xB1\x81\x7FC",
+    b"\x83\x40\xE0 A",
+    b"\x82\xA0\x85\x40\x82\xA0",
+    // a lead that is open at the end
+    b"\x93",
+    b"A\x82\xA0\xDF\xFC",
+];
 
 fn print_streams(index: &[u32]) {
     let mut cuts = Cuts {
@@ -313,22 +284,9 @@ fn print_streams(index: &[u32]) {
         two: Counts::nothing(),
         three: Counts::nothing(),
     };
-    // ASCII; katakana; pairs; all of them, with 80, private use and the index's last character
-    cuts = with_stream(cuts, b"Rattle ~\\", index);
-    cuts = with_stream(cuts, b"\xB1\xDF\xA1\xC0", index);
-    cuts = with_stream(cuts, b"\x82\xA0\x93\xFA\x96\x7B", index);
-    cuts = with_stream(cuts, b"A\xB1\x82\xA0\x80~\xF0\x40\xF9\xFC\xFC\x4B", index);
-    // a byte that is never right: first, amid others and last
-    cuts = with_stream(cuts, b"\xFDAB", index);
-    cuts = with_stream(cuts, b"A\x82\xA0\xA0\xB1", index);
-    cuts = with_stream(cuts, b"\xB1\x83\x41\xFF", index);
-    // a byte that is no trail, twice, and a pair that the index lacks
-    cuts = with_stream(cuts, b"B\xB1\x81\x7FC", index);
-    cuts = with_stream(cuts, b"\x83\x40\xE0 A", index);
-    cuts = with_stream(cuts, b"\x82\xA0\x85\x40\x82\xA0", index);
-    // a lead that is open at the end
-    cuts = with_stream(cuts, b"\x93", index);
-    cuts = with_stream(cuts, b"A\x82\xA0\xDF\xFC", index);
+    for stream in STREAMS {
+        cuts = with_stream(cuts, stream, index);
+    }
     cuts.one.print(b"streams in one piece:");
     cuts.two.print(b"cut in two:");
     cuts.three.print(b"cut in three:");
@@ -341,10 +299,10 @@ fn main(rt: HostRuntime) -> Result<()> {
     drop(file);
     tally::print_count(b"bytes of the index ", got as u64);
     let mut index = [0u32; JIS];
-    fill::words(&bytes, &mut index);
+    fill::entries(&bytes, &mut index);
     tally::print_mapped(b", mapped ", &index);
     tally::print_word(b"\n");
-    swept(Sweep::Single, 0, 256, &index).print(b"single bytes:");
+    print_singles(&index);
     print_pairs(&index);
     print_streams(&index);
     print_private(&mut index, 0);

@@ -3,10 +3,11 @@
 // whole, cut and none, and on how many the two differ, in the byte at which it is none too.
 #![tactic(auto)]
 
-ghost use Rattle.std.specs.Prelude.{◌≡◌, ◌<◌, ◌≤◌};
+ghost use Rattle.std.specs.Prelude.{◌<◌, ◌≤◌};
 
+use laws::Stop;
 use tally::{Counts, Verdict};
-use utf8::{Ran, Utf8};
+use utf8::Utf8;
 
 // What the bytes of one sequence, read so far, can become: with `left` bytes to come, the code points from `low` on, one for each
 // value of those bytes. `least` is the lowest code point that may be written with so many bytes.
@@ -19,185 +20,116 @@ struct Part {
 
 fn machine(part: &[u8]) -> Verdict {
     match Utf8::fresh().run(part) {
-        Ran::Live(m) => match m.close() {
-            Ran::Live(_) => Verdict::of(tally::WHOLE),
-            Ran::Dropped(reason, at) => Verdict::dropped(reason, at),
-            Ran::Unfit => Verdict::of(tally::UNFIT),
+        Ok(m) => match m.close() {
+            Ok(_) => Verdict::Whole,
+            Err(Stop::Dropped(reason, at)) => Verdict::dropped(reason, at),
+            Err(Stop::Unfit) => Verdict::Unfit(0),
         },
-        Ran::Dropped(reason, at) => Verdict::dropped(reason, std::num::wrapping_add_usize(at, 1)),
-        Ran::Unfit => Verdict::of(tally::UNFIT),
+        Err(Stop::Dropped(reason, at)) => Verdict::dropped(reason, at.wrapping_add(1)),
+        Err(Stop::Unfit) => Verdict::Unfit(0),
     }
-}
-
-fn wide(b: u8) -> u64
-    ensures { result ≡ b }
-{
-    b as u64
 }
 
 // Bits with the room of so many trail bytes below them.
 fn above(bits: u8, left: u8) -> u64 {
+    let bits = u64::from(bits);
     match left {
-        0 => wide(bits),
-        1 => 64 * wide(bits),
-        2 => 4096 * wide(bits),
-        _ => 262_144 * wide(bits),
+        0 => bits,
+        1 => 64 * bits,
+        2 => 4096 * bits,
+        _ => 262_144 * bits,
     }
 }
 
-fn begun(bits: u8, left: u8, least: u64) -> Part {
-    Part {
-        left,
-        low: above(bits, left),
-        least,
-    }
+fn begun(bits: u8, left: u8, least: u64) -> Option<Part> {
+    let low = above(bits, left);
+    Some(Part { left, low, least })
 }
 
 // Whether one of those code points may be written so: not too low, not above U+10FFFF, no surrogate.
 fn is_possible(part: Part) -> bool {
-    let mut from = part.low;
-    if from < part.least {
-        from = part.least;
-    }
-    let mut past = std::num::wrapping_add_u64(part.low, above(1, part.left));
-    if 0x11_0000 < past {
-        past = 0x11_0000;
-    }
-    if past <= from {
-        return false;
-    }
-    from < 0xD800 || 0xE000 < past
+    let from = part.low.max(part.least);
+    let past = part.low.wrapping_add(above(1, part.left)).min(0x11_0000);
+    from < past && (from < 0xD800 || 0xE000 < past)
 }
 
-// A byte more; `left` is 9 where it can't be one.
-fn taken(part: Part, b: u8) -> Part {
-    if part.left == 0 {
-        return first(b);
-    }
-    if b / 64 != 2 {
-        return never();
-    }
-    let left = part.left - 1;
-    Part {
-        left,
-        low: std::num::wrapping_add_u64(part.low, above(b % 64, left)),
-        least: part.least,
-    }
-}
-
-fn never() -> Part {
-    Part {
-        left: 9,
-        low: 0,
-        least: 0,
+// A byte more, where it can be one.
+fn taken(part: Part, b: u8) -> Option<Part> {
+    match (part.left, b) {
+        (0, _) => first(b),
+        (left, 0x80..=0xBF) => Some(Part {
+            left: left - 1,
+            low: part.low.wrapping_add(above(b % 64, left - 1)),
+            least: part.least,
+        }),
+        _ => None,
     }
 }
 
 // A lead, by its leading ones.
-fn first(b: u8) -> Part {
-    if b < 0x80 {
-        return begun(b % 128, 0, 0);
+fn first(b: u8) -> Option<Part> {
+    match b {
+        0x00..=0x7F => begun(b, 0, 0),
+        0xC0..=0xDF => begun(b % 32, 1, 0x80),
+        0xE0..=0xEF => begun(b % 16, 2, 0x800),
+        0xF0..=0xF7 => begun(b % 8, 3, 0x1_0000),
+        _ => None,
     }
-    if b < 0xC0 {
-        return never();
-    }
-    if b < 0xE0 {
-        return begun(b % 32, 1, 0x80);
-    }
-    if b < 0xF0 {
-        return begun(b % 16, 2, 0x800);
-    }
-    if b < 0xF8 {
-        return begun(b % 8, 3, 0x1_0000);
-    }
-    never()
 }
 
 fn second(bytes: &[u8]) -> Verdict {
-    let mut part = first(0);
-    let mut i = 0;
-    while i < bytes.len() {
-        part = taken(part, bytes[i]);
-        i += 1;
-        if part.left == 9 {
-            return Verdict::bad(i);
-        }
-        if !is_possible(part) {
-            return Verdict::bad(i);
+    let mut part = Part {
+        left: 0,
+        low: 0,
+        least: 0,
+    };
+    for (i, b) in bytes.iter().enumerate() {
+        match taken(part, *b).filter(|next| is_possible(*next)) {
+            Some(next) => part = next,
+            None => return Verdict::Bad(i + 1),
         }
     }
-    Verdict::of(if part.left == 0 {
-        tally::WHOLE
-    } else {
-        tally::CUT
-    })
+    match part.left {
+        0 => Verdict::Whole,
+        _ => Verdict::Cut(0),
+    }
 }
 
 fn counted(counts: Counts, bytes: &[u8]) -> Counts {
     counts.counted(machine(bytes), second(bytes))
 }
 
-fn counted_first(counts: Counts, bytes: &[u8], len: usize) -> Counts {
-    if len <= bytes.len() {
-        return counted(counts, &bytes[0..len]);
-    }
-    counts
-}
-
-fn byte(n: u64) -> u8 {
-    (n % 256) as u8
-}
-
 // The first `len` of the four bytes of each number from `from` on, below `to`, by `step`.
-fn swept(len: usize, from: u64, to: u64, step: u64) -> Counts
-    requires { (0 < step) × ((to ≤ 4294967296) × (step ≤ 4294967296)) }
+fn swept(len: usize, from: u64, to: u64, step: usize) -> Counts
+    requires { (len ≤ 4) × (0 < step) }
 {
     let mut counts = Counts::nothing();
-    let mut n = from;
-    while n < to {
-        let bytes = [
-            byte(n / 16_777_216),
-            byte(n / 65536),
-            byte(n / 256),
-            byte(n),
-        ];
-        counts = counted_first(counts, &bytes, len);
-        n = n + step;
+    for n in (from..to).step_by(step) {
+        let bytes = ((n % 0x1_0000_0000) as u32).to_be_bytes();
+        counts = counted(counts, &bytes[..len]);
     }
     counts
 }
 
 // The bytes at which a range of trail bytes can begin or end, and those beside them.
-fn edge(i: u8) -> u8 {
-    match i {
-        0 => 0x7F,
-        1 => 0x80,
-        2 => 0x8F,
-        3 => 0x90,
-        4 => 0x9F,
-        5 => 0xA0,
-        6 => 0xBF,
-        _ => 0xC0,
-    }
-}
+const EDGES: [u8; 8] = [0x7F, 0x80, 0x8F, 0x90, 0x9F, 0xA0, 0xBF, 0xC0];
 
 // From each lead of four bytes.
 fn swept_edges() -> Counts {
     let mut counts = Counts::nothing();
-    let mut n: u64 = 0;
-    while n < 2560 {
-        let bytes = [
-            byte(0xF0 + n / 512),
-            edge(byte(n / 64 % 8)),
-            edge(byte(n / 8 % 8)),
-            edge(byte(n % 8)),
-        ];
-        counts = counted(counts, &bytes);
-        n = n + 1;
+    for lead in 0xF0..=0xF4 {
+        for second in EDGES {
+            for third in EDGES {
+                for fourth in EDGES {
+                    counts = counted(counts, &[lead, second, third, fourth]);
+                }
+            }
+        }
     }
     counts
 }
 
+// Printed by `io::write_all`: `println!` gives each call a `Result` to be thrown away.
 fn print_one(name: &[u8], bytes: &[u8]) {
     counted(Counts::nothing(), bytes).print(name);
 }

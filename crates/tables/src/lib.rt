@@ -2,49 +2,63 @@
 #![tactic(auto)]
 
 ghost use Rattle.std.specs.Prelude.{◌≡◌};
-ghost use Rattle.tables.specs.Tables.{single, single_lengths, rest_lengths, single_rules, rest_rules, tables, exact_b, sized_b};
+ghost use Rattle.tables.specs.Lists.{lists, single_lists};
+ghost use Rattle.tables.specs.Tables.{single_lengths, rest_lengths, single_rules, rest_rules, exact_b, sized_b};
 
-fn is_single(classes: &[u8], marks: &[u8], pairs: &[i16]) -> bool
-    ensures { result ≡ exact_b (single_lengths (single classes.now marks.now pairs.now)) single_rules }
-{
-    classes.len() == lengths::CLASSES
-        && (marks.len() == lengths::MARKS && pairs.len() == lengths::PAIRS)
+pub mod held;
+pub mod own;
+
+// What a single-byte place is lent, the weights apart.
+#[derive(Clone, Copy)]
+pub struct Single<'a> {
+    pub classes: &'a [u8],
+    pub marks: &'a [u8],
+    pub pairs: &'a [i16],
 }
 
-fn are_rest(big5: &[u32], euckr: &[u32], jis: &[u32], extras: &[i16], weights: &[i32]) -> bool
-    ensures { result ≡ exact_b (rest_lengths big5.now euckr.now jis.now extras.now weights.now) rest_rules }
-{
-    big5.len() == lengths::BIG5
-        && (euckr.len() == lengths::EUC_KR
-            && (jis.len() == lengths::JIS
-                && (extras.len() == lengths::EXTRAS && weights.len() == lengths::WEIGHTS)))
+// All that is lent.
+#[derive(Clone, Copy)]
+pub struct Tables<'a> {
+    pub caseless: Single<'a>,
+    pub logical: Single<'a>,
+    pub visual: Single<'a>,
+    pub arabic_french: Single<'a>,
+    pub big5: &'a [u32],
+    pub euckr: &'a [u32],
+    pub jis: &'a [u32],
+    pub extras: &'a [i16],
+    pub weights: &'a [i32],
 }
 
-// Whether every lent length is exact.
-pub fn are_sized(
-    classes4: &[u8],
-    marks4: &[u8],
-    pairs4: &[i16],
-    classes5: &[u8],
-    marks5: &[u8],
-    pairs5: &[i16],
-    classes6: &[u8],
-    marks6: &[u8],
-    pairs6: &[i16],
-    classes7: &[u8],
-    marks7: &[u8],
-    pairs7: &[i16],
-    big5: &[u32],
-    euckr: &[u32],
-    jis: &[u32],
-    extras: &[i16],
-    weights: &[i32],
-) -> bool
-    ensures { result ≡ sized_b (tables classes4.now marks4.now pairs4.now classes5.now marks5.now pairs5.now classes6.now marks6.now pairs6.now classes7.now marks7.now pairs7.now big5.now euckr.now jis.now extras.now weights.now) }
-{
-    is_single(classes4, marks4, pairs4)
-        && (is_single(classes5, marks5, pairs5)
-            && (is_single(classes6, marks6, pairs6)
-                && (is_single(classes7, marks7, pairs7)
-                    && are_rest(big5, euckr, jis, extras, weights))))
+impl Single<'_> {
+    #[tactic(auto, unfolding(crate::specs::Tables::exact_b))]
+    fn is_sized(&self) -> bool
+        ensures { result ≡ exact_b (single_lengths (single_lists self.now)) single_rules }
+    {
+        self.classes.len() == lengths::CLASSES
+            && (self.marks.len() == lengths::MARKS && self.pairs.len() == lengths::PAIRS)
+    }
+}
+
+impl Tables<'_> {
+    #[tactic(auto, unfolding(crate::specs::Tables::exact_b))]
+    fn is_rest_sized(&self) -> bool
+        ensures { result ≡ exact_b (rest_lengths self.now.big5.now self.now.euckr.now self.now.jis.now self.now.extras.now self.now.weights.now) rest_rules }
+    {
+        self.big5.len() == lengths::BIG5
+            && (self.euckr.len() == lengths::EUC_KR
+                && (self.jis.len() == lengths::JIS
+                    && (self.extras.len() == lengths::EXTRAS
+                        && self.weights.len() == lengths::WEIGHTS)))
+    }
+
+    // Whether every lent length is exact.
+    pub fn are_sized(&self) -> bool
+        ensures { result ≡ sized_b (lists self.now) }
+    {
+        self.caseless.is_sized()
+            && (self.logical.is_sized()
+                && (self.visual.is_sized()
+                    && (self.arabic_french.is_sized() && self.is_rest_sized())))
+    }
 }

@@ -15,7 +15,7 @@ use Rattle.thin.proofs.feed.Reads as feed-reads
 abbrev clauses : (w : World) → Clauses w.𝓤 feed.ended
 clauses w = feed.clauses w.𝓛 w.𝓜.mem w.𝓡.run
 
-abbrev says : (κs : Lfts 19) → Args feed.signature κs → Res feed.signature κs → AtExit feed.ended κs → Type 0
+abbrev says : (κs : Lfts 4) → Args feed.signature κs → Res feed.signature κs → AtExit feed.ended κs → Type 0
 says κs a z e = (z ≡ thin_of (lent κs a) a.0.now a.1.0 a.1.1.0.now a.1.1.1.0) × (e.0.now ≡ front_after (lent κs a) a.0.now a.1.0 a.1.1.0.now a.1.1.1.0)
 
 pub feed_asks : AsksNothing feed.ended clauses
@@ -25,5 +25,5 @@ pub feed_leaves : DeterminedAt feed.ended clauses says
 feed_leaves = record { said = λ w κs a g z e. refl; one = λ κs a z z' w w' p q. (same p.0 q.0, ap (λ (f : Front). (f, none κs a)) (same p.1 q.1)) }
 
 -- The same over the readings of the contract that the check makes.
-pub feed_feed : Determined 19 feed-kinds.ps feed-kinds.r feed-reads.Asked feed-reads.Learnt
+pub feed_feed : Determined 4 feed-kinds.ps feed-kinds.r feed-reads.Asked feed-reads.Learnt
 feed_feed = record { total = λ κs a. tt; one = λ κs a z z' w w' p q. (same p.0 q.0, ap (λ (f : Front). (f, none κs a)) (same p.1 q.1)) }

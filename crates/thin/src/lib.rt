@@ -3,7 +3,7 @@
 #![tactic(auto)]
 
 ghost use Rattle.std.specs.Prelude.{◌≡◌};
-ghost use Rattle.tables.specs.Tables.{tables};
+ghost use Rattle.tables.specs.Lists.{lists};
 ghost use Rattle.thin.specs.Thin.{stepped_of, thin_of, front_after};
 
 use detector::feed;
@@ -11,6 +11,7 @@ use places::place::Slate;
 use state::State;
 use state::front::Front;
 use state::reply::Reply;
+use tables::Tables;
 
 #[derive(Clone, Copy)]
 pub struct Thin {
@@ -25,53 +26,10 @@ struct Stepped {
     thin: Thin,
 }
 
-fn step(
-    front: Front,
-    places: Slate,
-    chunk: &[u8],
-    last: bool,
-    classes4: &[u8],
-    marks4: &[u8],
-    pairs4: &[i16],
-    classes5: &[u8],
-    marks5: &[u8],
-    pairs5: &[i16],
-    classes6: &[u8],
-    marks6: &[u8],
-    pairs6: &[i16],
-    classes7: &[u8],
-    marks7: &[u8],
-    pairs7: &[i16],
-    big5: &[u32],
-    euckr: &[u32],
-    jis: &[u32],
-    extras: &[i16],
-    weights: &[i32],
-) -> Stepped
-    ensures { result ≡ stepped_of (tables classes4.now marks4.now pairs4.now classes5.now marks5.now pairs5.now classes6.now marks6.now pairs6.now classes7.now marks7.now pairs7.now big5.now euckr.now jis.now extras.now weights.now) front places chunk.now last }
+fn step(front: Front, places: Slate, chunk: &[u8], last: bool, tables: &Tables) -> Stepped
+    ensures { result ≡ stepped_of (lists tables.now) front places chunk.now last }
 {
-    let fed = feed::feed(
-        State { front, places },
-        chunk,
-        last,
-        classes4,
-        marks4,
-        pairs4,
-        classes5,
-        marks5,
-        pairs5,
-        classes6,
-        marks6,
-        pairs6,
-        classes7,
-        marks7,
-        pairs7,
-        big5,
-        euckr,
-        jis,
-        extras,
-        weights,
-    );
+    let fed = feed::feed(State { front, places }, chunk, last, tables);
     let state = fed.state;
     let front = state.front;
     let places = state.places;
@@ -83,36 +41,11 @@ fn step(
 }
 
 // A chunk, the last one of its stream or not, over the lent tables. After a reply of 1 to 4 the front is as it was.
-pub fn feed(
-    front: &mut Front,
-    places: Slate,
-    chunk: &[u8],
-    last: bool,
-    classes4: &[u8],
-    marks4: &[u8],
-    pairs4: &[i16],
-    classes5: &[u8],
-    marks5: &[u8],
-    pairs5: &[i16],
-    classes6: &[u8],
-    marks6: &[u8],
-    pairs6: &[i16],
-    classes7: &[u8],
-    marks7: &[u8],
-    pairs7: &[i16],
-    big5: &[u32],
-    euckr: &[u32],
-    jis: &[u32],
-    extras: &[i16],
-    weights: &[i32],
-) -> Thin
-    ensures { (result ≡ thin_of (tables classes4.now marks4.now pairs4.now classes5.now marks5.now pairs5.now classes6.now marks6.now pairs6.now classes7.now marks7.now pairs7.now big5.now euckr.now jis.now extras.now weights.now) front.old places chunk.now last) × (front.new ≡ front_after (tables classes4.now marks4.now pairs4.now classes5.now marks5.now pairs5.now classes6.now marks6.now pairs6.now classes7.now marks7.now pairs7.now big5.now euckr.now jis.now extras.now weights.now) front.old places chunk.now last) }
+pub fn feed(front: &mut Front, places: Slate, chunk: &[u8], last: bool, tables: &Tables) -> Thin
+    ensures { (result ≡ thin_of (lists tables.now) front.old places chunk.now last) × (front.new ≡ front_after (lists tables.now) front.old places chunk.now last) }
 {
     let old = *front;
-    let stepped = step(
-        old, places, chunk, last, classes4, marks4, pairs4, classes5, marks5, pairs5, classes6,
-        marks6, pairs6, classes7, marks7, pairs7, big5, euckr, jis, extras, weights,
-    );
+    let stepped = step(old, places, chunk, last, tables);
     *front = stepped.front;
     stepped.thin
 }

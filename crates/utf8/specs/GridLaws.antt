@@ -1,14 +1,15 @@
 -- What holds of the grid: its states are the records that the kind can hold and one more, the test of all its entries says what
 -- each of them is, and a byte leads where the step leads.
-use Rattle.std.specs.Prelude.{◌≡◌, Bool, cond, ◌||◌, List, [], ◌∷◌, ℕ, zero, suc, ◌+◌, ◌-◌, ◌*◌, ◌/◌, ◌%◌, ◌<◌, ◌≤◌, T, eqb, leb, pos, length, get_or, take, drop}
+use Rattle.std.specs.Prelude.{◌≡◌, Bool, cond, ◌||◌, List, [], ◌∷◌, ℕ, zero, suc, ◌+◌, ◌-◌, ◌*◌, ◌/◌, ◌%◌, ◌<◌, ◌≤◌, T, eqb, leb, pos, length, get_or, take, drop, Ok, Err}
 use Rattle.std.proofs.Math.Path.{refl, sym, ap}
 use Rattle.std.proofs.Common.{◌∙◌, arith, eqb→eq, lt-ltb, leb-true, leb-false, ne_eqb}
 use Rattle.std.proofs.Math.Bool.{true, false}
 use Rattle.std.proofs.Math.Dec.{ltb}
 use Rattle.std.proofs.lemmas.Bool.{eqb-false}
 use Rattle.laws.specs.Limit.{limit}
-use Rattle.laws.specs.Answer.{if_unfit}
+use Rattle.laws.specs.Answer.{reached, if_unfit}
 use Rattle.laws.specs.declared.Reason.TheVariants.{BadByte}
+use Rattle.laws.specs.declared.Stop.TheVariants.{Dropped, Unfit}
 use Rattle.laws.specs.Going.{Going, going_start, going_still, going_done}
 use Rattle.laws.proofs.Going.{going_block, going_none, going_at}
 use Rattle.laws.specs.Lists.{count}
@@ -19,8 +20,7 @@ use Rattle.laws.specs.Tests.{either}
 use Rattle.octets.specs.Octets.{non_ascii}
 use Rattle.context.specs.Head.{non_ascii_count}
 use Rattle.utf8.specs.declared.Utf8.{Utf8}
-use Rattle.utf8.specs.declared.Ran.TheVariants.{Live as Live', Dropped, Unfit}
-use Rattle.utf8.specs.Utf8.{needs, fresh, Sound, plain, after_E0, after_ED, after_F0, after_F4, next_in, next_cut, sound_b, step_of, ran_as, Ready, ready_b, ran_of}
+use Rattle.utf8.specs.Utf8.{needs, fresh, Sound, plain, after_E0, after_ED, after_F0, after_F4, next_in, next_cut, sound_b, step_of, Ready, ready_b, ran_of}
 use Rattle.utf8.specs.Utf8Laws.{lead_ascii, step_lead, sound_true, step_live, step_reason, ran_ready}
 use Rattle.utf8.specs.Grid.{bad, last, Live, record_at, outcome_at, cut_state, state_of, state_after, entry_of, IsGrid, right_b, grid_b}
 
@@ -199,13 +199,13 @@ module _ {from : ℕ} {xs : List ℕ} where
           let there = entry_live s (get_or xs i 0) r on.live e f in
           record { live = there; going = going_still on.going h (step_on s (get_or xs i 0) r on.live e f) ((numbered r there).0, refl) }
 
-      pub on_bad : r ≡ bad → Dropped BadByte i ≡ ran_as (last_at step_of (alive (record_at from)) xs) (run step_of (alive (record_at from)) xs)
+      pub on_bad : r ≡ bad → Err (Dropped BadByte i) ≡ reached (last_at step_of (alive (record_at from)) xs) (run step_of (alive (record_at from)) xs)
       on_bad f =
           let gave = step_bad s (get_or xs i 0) r on.live e f in
-          ap (Dropped BadByte) (going_at on.going h gave) ∙ ap (ran_as (last_at step_of (alive (record_at from)) xs)) (going_none on.going h gave)
+          ap (λ (n : ℕ). Err (Dropped BadByte n)) (going_at on.going h gave) ∙ ap (reached (last_at step_of (alive (record_at from)) xs)) (going_none on.going h gave)
 
-    pub on_done : length xs ≤ i → Live' (record_at s) ≡ ran_as (last_at step_of (alive (record_at from)) xs) (run step_of (alive (record_at from)) xs)
-    on_done h = ap (ran_as (last_at step_of (alive (record_at from)) xs)) (going_done on.going h)
+    pub on_done : length xs ≤ i → Ok (record_at s) ≡ reached (last_at step_of (alive (record_at from)) xs) (run step_of (alive (record_at from)) xs)
+    on_done h = ap (reached (last_at step_of (alive (record_at from)) xs)) (going_done on.going h)
 
 -- ---- the test of all entries, carried to each
 pub is_grid : (grid : List ℕ) → T (grid_b grid) → IsGrid grid
@@ -233,11 +233,11 @@ ascii_run (b ∷ bs) e = ascii_at b bs (non_ascii b) refl e (ascii_run bs)
 
 -- ---- each way through a stretch, by the state of the record
 module _ (m : Utf8) (s : ℕ) (e : s ≡ state_of m) where
-  pub ran_bad : (xs : List ℕ) → s ≡ bad → Unfit ≡ ran_of m xs
+  pub ran_bad : (xs : List ℕ) → s ≡ bad → Err Unfit ≡ ran_of m xs
   unfolding ran_of ready_b
   ran_bad xs f =
       let q : sound_b m ≡ false = state_sound m ∙ ap (λ (k : ℕ). ltb bad k) (sym e ∙ f) in
-      sym (if_unfit _ _ _ _ _ _ (rw q))
+      sym (if_unfit _ _ (rw q))
 
   module _ (f : s ≡ bad → ⊥) where
     pub state_live : Live s
@@ -253,11 +253,11 @@ module _ (m : Utf8) (s : ℕ) (e : s ≡ state_of m) where
       ready : Ready m xs
       ready = record { sound = fit; short = short }
 
-      pub ran_state : ran_as (last_at step_of (alive (record_at s)) xs) (run step_of (alive (record_at s)) xs) ≡ ran_of m xs
+      pub ran_state : reached (last_at step_of (alive (record_at s)) xs) (run step_of (alive (record_at s)) xs) ≡ ran_of m xs
       ran_state = rw record_is (sym (ran_ready m xs ready))
 
-      pub ran_ascii : s ≡ 1 → non_ascii_count xs ≡ 0 → Live' fresh ≡ ran_of m xs
+      pub ran_ascii : s ≡ 1 → non_ascii_count xs ≡ 0 → Ok fresh ≡ ran_of m xs
       unfolding record_at
       ran_ascii z q =
           let k : fresh ≡ m = ap record_at (sym z) ∙ record_is in
-          sym (ran_ready m xs ready ∙ (rw (← k) (ap (ran_as (last_at step_of (alive fresh) xs)) (ascii_run xs q))))
+          sym (ran_ready m xs ready ∙ (rw (← k) (ap (reached (last_at step_of (alive fresh) xs)) (ascii_run xs q))))

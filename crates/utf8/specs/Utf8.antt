@@ -1,13 +1,12 @@
 -- The UTF-8 machine: how many bytes are still needed and the range of the next one. A byte changes no score.
-use Rattle.std.specs.Prelude.{Bool, false, cond, ◌&&◌, ◌||◌, List, ℕ, ◌-◌, ◌≤◌, eqb, leb, ℤ, length}
+use Rattle.std.specs.Prelude.{Bool, false, cond, ◌&&◌, ◌||◌, List, ℕ, ◌-◌, ◌≤◌, eqb, leb, length, Result}
 use Rattle.laws.specs.Limit.{limit}
-use Rattle.laws.specs.Answer.{answered, answered_if}
+use Rattle.laws.specs.Answer.{reached, tested}
+use Rattle.laws.specs.declared.Stop.{Stop}
 use Rattle.laws.specs.declared.Reason.TheVariants.{BadByte, CutAtClose}
 use Rattle.laws.specs.Run.{Outcome, none, alive, run, last_at}
 use Rattle.octets.specs.Octets.{between}
 use Rattle.utf8.specs.declared.Utf8.{Utf8}
-use Rattle.utf8.specs.declared.Ran.{Ran}
-use Rattle.utf8.specs.declared.Ran.TheVariants.{Live, Dropped, Unfit}
 
 -- ---- records
 -- n bytes are needed, the next of them from lo to hi
@@ -59,13 +58,6 @@ unfoldable pub close_of : Utf8 → Outcome Utf8
 close_of m = cond (eqb m.need 0) (alive m) (none CutAtClose)
 
 -- ---- the code's answers
--- the change of the score, which is 0, is not told
-abbrev living : Utf8 → ℤ → Ran
-living m s = Live m
-
-abbrev pub ran_as : ℕ → Outcome Utf8 → Ran
-ran_as at o = answered living Dropped at o
-
 -- a record that the kind can hold, and a stretch that is not too long
 pub record Ready (m : Utf8) (xs : List ℕ) : Type 0 where
   pub sound : Sound m
@@ -74,9 +66,10 @@ pub record Ready (m : Utf8) (xs : List ℕ) : Type 0 where
 unfoldable pub ready_b : Utf8 → List ℕ → Bool
 ready_b m xs = sound_b m && leb (length xs) limit
 
-unfoldable pub ran_of : Utf8 → List ℕ → Ran
-ran_of m xs = answered_if living Dropped Unfit (ready_b m xs) (last_at step_of (alive m) xs) (run step_of (alive m) xs)
+-- the change of the score, which is 0, is not told
+unfoldable pub ran_of : Utf8 → List ℕ → Result Utf8 Stop
+ran_of m xs = tested (ready_b m xs) (reached (last_at step_of (alive m) xs) (run step_of (alive m) xs))
 
 -- the end takes no byte
-unfoldable pub closed_of : Utf8 → Ran
-closed_of m = answered_if living Dropped Unfit (sound_b m) 0 (close_of m)
+unfoldable pub closed_of : Utf8 → Result Utf8 Stop
+closed_of m = tested (sound_b m) (reached 0 (close_of m))

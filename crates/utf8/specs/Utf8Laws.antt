@@ -5,7 +5,7 @@ use Rattle.std.proofs.Common.{◌∙◌, arith}
 use Rattle.std.proofs.Math.Bool.{true, false}
 use borrow.Author.Tests.{eq-eqb, ne_eqb, eqb-true, le-leb, leb-true}
 use Rattle.laws.specs.Limit.{limit}
-use Rattle.laws.specs.Answer.{if_fit}
+use Rattle.laws.specs.Answer.{reached, if_fit}
 use Rattle.laws.specs.declared.Reason.{Reason}
 use Rattle.laws.specs.declared.Reason.TheVariants.{BadByte, CutAtClose}
 use Rattle.laws.specs.Run.{Outcome, none, live, run, last_at, alive}
@@ -14,7 +14,7 @@ use Rattle.laws.specs.Still.{Lives, Ends, none_live, run_ends}
 use Rattle.octets.specs.Octets.{between}
 use Rattle.octets.specs.BetweenLaws.{inside, above}
 use Rattle.utf8.specs.declared.Utf8.{Utf8}
-use Rattle.utf8.specs.Utf8.{needs, fresh, Sound, plain, after_E0, after_ED, after_F0, after_F4, next_in, next_cut, sound_b, lead_of, trail_of, step_of, close_of, ran_as, Ready, ready_b, ran_of, closed_of}
+use Rattle.utf8.specs.Utf8.{needs, fresh, Sound, plain, after_E0, after_ED, after_F0, after_F4, next_in, next_cut, sound_b, lead_of, trail_of, step_of, close_of, Ready, ready_b, ran_of, closed_of}
 
 -- ---- a byte that begins a sequence
 module _ (b : ℕ) where
@@ -175,10 +175,10 @@ module _ (m : Utf8) (xs : List ℕ) where
   ready_true e = let q = both (sound_b m) (leb (length xs) limit) e in record { sound = sound_true m q.0; short = leb-true _ _ q.1 }
 
   -- a caller that tested
-  pub ran_ready : Ready m xs → ran_of m xs ≡ ran_as (last_at step_of (alive m) xs) (run step_of (alive m) xs)
+  pub ran_ready : Ready m xs → ran_of m xs ≡ reached (last_at step_of (alive m) xs) (run step_of (alive m) xs)
   unfolding ran_of
-  ran_ready r = if_fit _ _ _ _ _ _ (true_ready r)
+  ran_ready r = if_fit _ _ (true_ready r)
 
-pub closed_ready : (m : Utf8) → Sound m → closed_of m ≡ ran_as 0 (close_of m)
+pub closed_ready : (m : Utf8) → Sound m → closed_of m ≡ reached 0 (close_of m)
 unfolding closed_of
-closed_ready m h = if_fit _ _ _ _ _ _ (true_sound m h)
+closed_ready m h = if_fit _ _ (true_sound m h)

@@ -1,12 +1,13 @@
 // The UTF-8 rule on one sheet: nine states by 256 byte values, each entry the next state. docs/UTF-8.md shows it beside Unicode's
-// table of well-formed byte sequences.
+// table of well-formed byte sequences. A state is a number, and no enum, since an entry is where the next row is looked up.
 ghost use Rattle.std.specs.Prelude.{◌≡◌, ◌≤◌};
+ghost use Rattle.laws.specs.Answer.{reached};
 ghost use Rattle.laws.specs.Run.{run, last_at, alive};
 ghost use Rattle.utf8.specs.Grid.{IsGrid, Live, entry_of, last, outcome_at, record_at};
-ghost use Rattle.utf8.specs.Utf8.{ran_as, step_of};
+ghost use Rattle.utf8.specs.Utf8.{step_of};
 
-use crate::{Ran, Utf8};
-use laws::Reason;
+use crate::Utf8;
+use laws::{Reason, Stop};
 
 pub const STATES: usize = 9;
 
@@ -196,18 +197,17 @@ fn after(grid: &[u8], from: u8, block: &[u8]) -> u8
     ensures { (result ≤ last) × (outcome_at result ≡ run step_of (outcome_at from) block.now) }
 {
     let mut state = from;
-    let mut i = 0;
-    while i < block.len() {
-        state = next(grid, state, block[i]);
-        i += 1;
+    for &b in block {
+        state = next(grid, state, b);
     }
     state
 }
 
-// Block by block, as far as no block has a bad byte; then byte by byte, to the bad one or to the end.
-fn run_over(grid: &[u8], from: u8, part: &[u8]) -> Ran
+// Block by block, as far as no block has a bad byte; then byte by byte, to the bad one or to the end. The second loop begins at the
+// place that the first one leaves, which an iterator over blocks would leave to be counted beside it.
+fn run_over(grid: &[u8], from: u8, part: &[u8]) -> Result<Utf8, Stop>
     requires { IsGrid grid.now × Live from }
-    ensures { result ≡ ran_as (last_at step_of (alive (record_at from)) part.now) (run step_of (alive (record_at from)) part.now) }
+    ensures { result ≡ reached (last_at step_of (alive (record_at from)) part.now) (run step_of (alive (record_at from)) part.now) }
 {
     let mut state = from;
     let mut at = 0;
@@ -220,22 +220,21 @@ fn run_over(grid: &[u8], from: u8, part: &[u8]) -> Ran
         state = past;
         at = end;
     }
-    while at < part.len() {
-        let past = next(grid, state, part[at]);
+    for i in at..part.len() {
+        let past = next(grid, state, part[i]);
         if past == BAD {
-            return Ran::Dropped(Reason::BadByte, at);
+            return Err(Stop::Dropped(Reason::BadByte, i));
         }
         state = past;
-        at += 1;
     }
-    Ran::Live(Utf8::of_state(state))
+    Ok(Utf8::of_state(state))
 }
 
 // A stretch of bytes from a state. The check names its grid here and nowhere else, and lends it to all below: the compiler writes
 // the whole of it anew, in each call, where a function names it.
-pub(crate) fn run(from: u8, part: &[u8]) -> Ran
+pub(crate) fn run(from: u8, part: &[u8]) -> Result<Utf8, Stop>
     requires { Live from }
-    ensures { result ≡ ran_as (last_at step_of (alive (record_at from)) part.now) (run step_of (alive (record_at from)) part.now) }
+    ensures { result ≡ reached (last_at step_of (alive (record_at from)) part.now) (run step_of (alive (record_at from)) part.now) }
 {
     run_over(&GRID, from, part)
 }

@@ -9,23 +9,14 @@ ghost use Rattle.utf8.specs.Utf8.{closed_of, fresh, needs, next_in, ran_of, soun
 pub mod grid;
 
 use context::Scanned;
-use laws::Reason;
+use laws::{Reason, Stop};
 
 // Between two bytes: how many more the sequence needs, and the range of the next one.
-#[derive(Clone, Copy)]
+#[derive(Clone, Copy, PartialEq, Eq)]
 pub struct Utf8 {
     pub need: u8,
     pub lo: u8,
     pub hi: u8,
-}
-
-// What a stretch, or the end of the stream, leaves: the record; or why it drops out and at which offset in the stretch, 0 at
-// the end; or the record or the stretch was not fit to run.
-#[derive(Clone, Copy)]
-pub enum Ran {
-    Live(Utf8),
-    Dropped(Reason, usize),
-    Unfit,
 }
 
 impl Utf8 {
@@ -44,16 +35,15 @@ impl Utf8 {
     }
 
     // Whether the next byte's range is this one.
+    #[tactic(auto, unfolding(crate::specs::Utf8::next_in))]
     fn next_in(self, lo: u8, hi: u8) -> bool
         ensures { result ≡ next_in self lo hi }
     {
-        if self.lo == lo {
-            return self.hi == hi;
-        }
-        false
+        self.lo == lo && self.hi == hi
     }
 
     // The state of a record whose next byte's range is cut: at its low end, or, one further, at its high end.
+    #[tactic(auto, unfolding(crate::specs::Grid::cut_state))]
     fn cut_state(self, lo: u8, hi: u8, state: u8) -> u8
         requires { state < last }
         ensures { result ≡ cut_state self lo hi state }
@@ -68,6 +58,7 @@ impl Utf8 {
     }
 
     // The record's state in the grid; the first one stands for every record that the kind can't hold.
+    #[tactic(auto, unfolding(crate::specs::Grid::state_of))]
     fn state(self) -> u8
         ensures { result ≡ state_of self }
     {
@@ -93,6 +84,7 @@ impl Utf8 {
     }
 
     // The record of a state that has one.
+    #[tactic(auto, using(crate::specs::GridLaws::last_record), unfolding(crate::specs::Grid::record_at))]
     pub(crate) fn of_state(state: u8) -> Utf8
         requires { Live state }
         ensures { result ≡ record_at state }
@@ -110,6 +102,7 @@ impl Utf8 {
     }
 
     // Whether the record is one that the kind can hold.
+    #[tactic(auto, using(crate::specs::GridLaws::state_sound))]
     pub fn is_sound(self) -> bool
         ensures { result ≡ sound_b self }
     {
@@ -117,35 +110,34 @@ impl Utf8 {
     }
 
     // A stretch of bytes, one after the other. Between two sequences a stretch of ASCII changes nothing and needs no grid.
-    pub fn run(self, part: &[u8]) -> Ran
+    pub fn run(self, part: &[u8]) -> Result<Utf8, Stop>
         ensures { result ≡ ran_of self part.now }
     {
         let from = self.state();
         if from == grid::BAD {
-            return Ran::Unfit;
+            return Err(Stop::Unfit);
         }
         if lengths::MOST < part.len() {
-            return Ran::Unfit;
+            return Err(Stop::Unfit);
         }
-        if from == grid::BETWEEN {
-            if is_ascii(part) {
-                return Ran::Live(Utf8::fresh());
-            }
+        if from == grid::BETWEEN && is_ascii(part) {
+            return Ok(Utf8::fresh());
         }
         grid::run(from, part)
     }
 
     // The end of the stream: a sequence that is cut drops out.
-    pub fn close(self) -> Ran
+    #[tactic(auto, unfolding(crate::specs::Utf8::closed_of, crate::specs::Utf8::close_of, laws::specs::Answer::tested))]
+    pub fn close(self) -> Result<Utf8, Stop>
         ensures { result ≡ closed_of self }
     {
-        if self.is_sound() {
-            if self.need == 0 {
-                return Ran::Live(self);
-            }
-            return Ran::Dropped(Reason::CutAtClose, 0);
+        if !self.is_sound() {
+            return Err(Stop::Unfit);
         }
-        Ran::Unfit
+        if self.need == 0 {
+            return Ok(self);
+        }
+        Err(Stop::Dropped(Reason::CutAtClose, 0))
     }
 }
 

@@ -4,6 +4,8 @@
 mod sheet;
 
 use scribe::STDOUT_FILENO;
+use scribe::page::Page;
+use std::convert::AsSlice;
 use utf8::grid::GRID;
 
 // Room for the text, which has 353 bytes.
@@ -11,7 +13,8 @@ const ROOM: usize = 1_024;
 
 fn main() {
     let grid = GRID;
-    let mut out = [0u8; ROOM];
-    let end = sheet::write(&mut out, 0, &grid);
-    io::write_all(STDOUT_FILENO, &out[..end]);
+    let mut text = [0u8; ROOM];
+    let mut out = Page::new(&mut text, 0);
+    sheet::write(&mut out, &grid);
+    io::write_all(STDOUT_FILENO, out.as_slice());
 }

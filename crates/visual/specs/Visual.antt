@@ -1,8 +1,7 @@
 -- The machine of visual order: what one byte does, a part of a chunk, and the close.
 use Rattle.std.specs.Prelude.{Bool, true, false, not, ◌&&◌, List, ℕ, ◌≤◌, leb}
-use Rattle.laws.specs.Answer.{Answer, ran, unfit, answered, BoundedBy}
-use Rattle.laws.specs.Run.{Outcome, none, live}
-use Rattle.laws.specs.declared.Reason.TheVariants.{Class255}
+use Rattle.laws.specs.Answer.{Ran}
+use Rattle.laws.specs.Run.{Outcome, live}
 use Rattle.octets.specs.Octets.{ascii}
 use Rattle.single.specs.Class.{caseless_of, alphabetic, unless255}
 use Rattle.laws.specs.Limit.{room}
@@ -13,10 +12,6 @@ use Rattle.single.specs.Pair.{ascii_pair, gain_of}
 use Rattle.single.specs.Punctuation.{punctuation_of, count_of}
 use Rattle.single.specs.Words.{word_of, longest_of}
 use Rattle.visual.specs.declared.Visual.{Visual}
-use Rattle.visual.specs.declared.Ran.{Ran}
-use Rattle.visual.specs.declared.Ran.TheVariants.{Live, Dropped, Unfit}
-use Rattle.visual.specs.declared.Stepped.{Stepped}
-use Rattle.visual.specs.declared.Stepped.TheVariants.{Live as SteppedLive, Dropped as SteppedDropped}
 
 abbrev pub fresh : Visual
 fresh = record { prev = 0; prev_ascii = true; prev_punctuation = false; plausible_punctuation = 0; current_word_len = 0; longest_word = 0 }
@@ -56,25 +51,8 @@ abbrev pub sound_b : ℕ → Visual → Bool
 sound_b n m = leb m.plausible_punctuation n && common_b n m.prev m.current_word_len m.longest_word
 
 -- ---- the answers
-abbrev pub answer_of : Ran → Answer Visual
-answer_of (Live m s) = ran (live m s)
-answer_of (Dropped d n) = ran (none d)
-answer_of Unfit = unfit
+abbrev pub ran_of : Lent → Visual → List ℕ → Ran Visual
+ran_of t m xs = ran_by step_of (sound_b room) t m xs
 
-abbrev pub took_of : Stepped → Answer Visual
-took_of (SteppedLive m s) = ran (live m s)
-took_of SteppedDropped = ran (none Class255)
-
--- what happened, and where
-abbrev pub ran_as : ℕ → Outcome Visual → Ran
-ran_as at o = answered Live Dropped at o
-
-unfoldable pub ran_of : Lent → Visual → List ℕ → Ran
-ran_of t m xs = ran_by step_of (sound_b room) Live Dropped Unfit t m xs
-
-unfoldable pub closed_of : Lent → Visual → Ran
-closed_of t m = closed_by step_of (sound_b room) Live Dropped Unfit t m
-
--- a live answer's score changes by at most c
-abbrev pub Bounded : ℕ → Ran → Type 0
-Bounded c r = BoundedBy c (answer_of r)
+abbrev pub closed_of : Lent → Visual → Ran Visual
+closed_of t m = closed_by step_of (sound_b room) t m

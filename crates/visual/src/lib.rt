@@ -2,22 +2,18 @@
 // word.
 #![tactic(auto)]
 
-ghost use Rattle.std.specs.Prelude.{◌≡◌, true, false, ◌*◌, ◌<◌, ◌≤◌, length, get_or};
-ghost use Rattle.laws.specs.Answer.{ran, BoundedBy};
-ghost use Rattle.laws.specs.Run.{alive, live, run, last_at};
-ghost use Rattle.weights.specs.Weights.{per_byte};
-ghost use Rattle.visual.specs.Visual.{fresh, step_of, took_of, ran_as, ran_of, closed_of, Sound, sound_b, Bounded};
-ghost use Rattle.visual.specs.Noted.{punctuation_before, pair_at, noted, bare, left_by, gain_from, rough_of};
+ghost use Rattle.std.specs.Prelude.{◌≡◌, true, false, ◌*◌, ◌<◌, ◌≤◌, length, nat_abs, get_or};
 ghost use Rattle.laws.specs.Limit.{room};
-ghost use Rattle.single.specs.Fit.{Fit};
-ghost use Rattle.single.specs.Before.{ascii_before};
+ghost use Rattle.weights.specs.Weights.{per_byte};
 ghost use Rattle.single.specs.Class.{alphabetic_of};
-ghost use Rattle.single.specs.Lent.{lent, Sized};
-ghost use Rattle.single.specs.Rest.{Rests};
+ghost use Rattle.visual.specs.Visual.{fresh, step_of, Sound, sound_b};
+ghost use Rattle.visual.specs.VisualLaws.{is_sound};
+ghost use Rattle.visual.specs.Noted.{punctuation_before, noted, bare, left_by, gain_from, RestsAt, starts};
 
-use laws::Reason;
+use single::Lent;
+use single::machine::{AsciiBefore, SingleByte};
 
-#[derive(Clone, Copy)]
+#[derive(Clone, Copy, PartialEq, Eq)]
 pub struct Visual {
     pub prev: u8,
     pub prev_ascii: bool,
@@ -25,22 +21,6 @@ pub struct Visual {
     pub plausible_punctuation: u64,
     pub current_word_len: u64,
     pub longest_word: u64,
-}
-
-// The record after a part of a chunk or the close, and by how much the score changed; or class 255 was met, with the byte's
-// offset in the part; or the record is none that the kind can hold, a lent length is wrong, or the part is too long.
-#[derive(Clone, Copy)]
-pub enum Ran {
-    Live(Visual, i64),
-    Dropped(Reason, usize),
-    Unfit,
-}
-
-// The record after a byte and the change of the score; or class 255 was met.
-#[derive(Clone, Copy)]
-enum Stepped {
-    Live(Visual, i64),
-    Dropped,
 }
 
 impl Visual {
@@ -60,25 +40,6 @@ impl Visual {
         }
     }
 
-    // Whether the byte before byte i of a part is ASCII; the record has it of the byte before the part.
-    fn ascii_before(self, part: &[u8], i: usize) -> bool
-        requires { i ≤ length part.now }
-        ensures { result ≡ ascii_before part.now i self.prev_ascii }
-    {
-        if i == 0 {
-            return self.prev_ascii;
-        }
-        octets::is_ascii(part[i - 1])
-    }
-
-    // Whether byte i of a part and the one before are both ASCII.
-    fn is_ascii_pair(self, part: &[u8], i: usize) -> bool
-        requires { i < length part.now }
-        ensures { result ≡ pair_at part.now i self }
-    {
-        single::is_ascii_pair(self.ascii_before(part, i), part[i])
-    }
-
     // Whether the byte before byte i of a part is ASCII punctuation of caseless class 0.
     fn punctuation_before(self, part: &[u8], i: usize) -> bool
         requires { i ≤ length part.now }
@@ -88,21 +49,6 @@ impl Visual {
             return self.prev_punctuation;
         }
         single::is_punctuation(self.prev, part[i - 1])
-    }
-
-    // The record at byte i of a part, after steps over the bytes before.
-    fn noted(self, part: &[u8], i: usize) -> Visual
-        requires { i ≤ length part.now }
-        ensures { result ≡ noted part.now i self }
-    {
-        Visual {
-            prev: self.prev,
-            prev_ascii: self.ascii_before(part, i),
-            prev_punctuation: self.punctuation_before(part, i),
-            plausible_punctuation: self.plausible_punctuation,
-            current_word_len: self.current_word_len,
-            longest_word: self.longest_word,
-        }
     }
 
     // What a step leaves. Its flags are left for `noted` to find from the byte, where they are asked.
@@ -119,191 +65,111 @@ impl Visual {
         }
     }
 
-    // A byte of an alphabetic class: only there is punctuation before it plausible.
-    fn letter(
-        self,
-        part: &[u8],
-        i: usize,
-        current: u8,
-        marks: &[u8],
-        pairs: &[i16],
-        weights: &[i32],
-    ) -> Stepped
-        requires i_in_bounds { i < length part.now }
-        requires sound { Sound (2 * room) self }
-        requires current_value { alphabetic_of marks.now current ≡ true }
-        ensures result_value { took_of result ≡ ran (live (left_by (noted part.now i self) (get_or part.now i 0) current true) (gain_from marks.now pairs.now weights.now (noted part.now i self) (get_or part.now i 0) current)) }
-        ensures bounded_by { BoundedBy per_byte (took_of result) }
-    {
-        let words = single::words_after(self.current_word_len, self.longest_word, true);
-        if self.is_ascii_pair(part, i) {
-            let count = self.plausible_punctuation;
-            return Stepped::Live(Self::bare(current, count, words.current, words.longest), 0);
-        }
-        let plausible = self.punctuation_before(part, i);
-        let count = single::count_if(self.plausible_punctuation, plausible);
-        let score = single::marked_gain(self.prev, current, true, marks, pairs, weights);
-        Stepped::Live(
-            Self::bare(current, count, words.current, words.longest),
-            score,
-        )
-    }
-
     // A byte between words, and so is the one before: no word ends, and none is beside a Latin letter.
-    fn between(
-        self,
-        part: &[u8],
-        i: usize,
-        current: u8,
-        marks: &[u8],
-        pairs: &[i16],
-        weights: &[i32],
-    ) -> Stepped
+    #[tactic(auto, using(single::specs::Rest::gain_rested))]
+    fn between(self, part: &[u8], i: usize, current: u8, lent: &Lent) -> (Visual, i64)
         requires i_in_bounds { i < length part.now }
         requires current_word_len_value { self.current_word_len ≡ 0 }
-        requires prev_value { alphabetic_of marks.now self.prev ≡ false }
-        requires current_value { alphabetic_of marks.now current ≡ false }
-        ensures result_value { took_of result ≡ ran (live (left_by (noted part.now i self) (get_or part.now i 0) current false) (gain_from marks.now pairs.now weights.now (noted part.now i self) (get_or part.now i 0) current)) }
-        ensures bounded_by { BoundedBy per_byte (took_of result) }
+        requires prev_value { alphabetic_of lent.now.marks.now self.prev ≡ false }
+        requires current_value { alphabetic_of lent.now.marks.now current ≡ false }
+        ensures next { result.0 ≡ left_by (noted part.now i self) (get_or part.now i 0) current false }
+        ensures gain { result.1 ≡ gain_from lent.now.marks.now lent.now.pairs.now lent.now.weights.now (noted part.now i self) (get_or part.now i 0) current }
+        ensures gain_bound { nat_abs result.1 ≤ per_byte }
     {
         let next = Self::bare(current, self.plausible_punctuation, 0, self.longest_word);
         if self.is_ascii_pair(part, i) {
-            return Stepped::Live(next, 0);
+            return (next, 0);
         }
-        Stepped::Live(next, single::pair_score(self.prev, current, pairs))
+        (next, single::pair_score(self.prev, current, lent.pairs))
     }
 
-    // A byte of any other class.
-    fn other(
+    // A byte of a class that is alphabetic, before which alone punctuation is plausible, or of one that is not.
+    #[tactic(auto, using(single::specs::Rest::gain_marked))]
+    fn scored<const ALPHABETIC: bool>(
         self,
         part: &[u8],
         i: usize,
         current: u8,
-        marks: &[u8],
-        pairs: &[i16],
-        weights: &[i32],
-    ) -> Stepped
+        lent: &Lent,
+    ) -> (Visual, i64)
         requires i_in_bounds { i < length part.now }
         requires sound { Sound (2 * room) self }
-        requires rests { Rests marks.now i self.current_word_len self.prev }
-        requires current_value { alphabetic_of marks.now current ≡ false }
-        ensures result_value { took_of result ≡ ran (live (left_by (noted part.now i self) (get_or part.now i 0) current false) (gain_from marks.now pairs.now weights.now (noted part.now i self) (get_or part.now i 0) current)) }
-        ensures bounded_by { BoundedBy per_byte (took_of result) }
+        requires current_value { alphabetic_of lent.now.marks.now current ≡ ALPHABETIC }
+        ensures next { result.0 ≡ left_by (noted part.now i self) (get_or part.now i 0) current ALPHABETIC }
+        ensures gain { result.1 ≡ gain_from lent.now.marks.now lent.now.pairs.now lent.now.weights.now (noted part.now i self) (get_or part.now i 0) current }
+        ensures gain_bound { nat_abs result.1 ≤ per_byte }
     {
-        if single::is_at_rest(i, self.current_word_len) {
-            return self.between(part, i, current, marks, pairs, weights);
-        }
-        let words = single::words_after(self.current_word_len, self.longest_word, false);
+        let words = single::words_after(self.current_word_len, self.longest_word, ALPHABETIC);
         let count = self.plausible_punctuation;
-        let next = Self::bare(current, count, words.current, words.longest);
         if self.is_ascii_pair(part, i) {
-            return Stepped::Live(next, 0);
+            return (Self::bare(current, count, words.current, words.longest), 0);
         }
-        let score = single::marked_gain(self.prev, current, false, marks, pairs, weights);
-        Stepped::Live(next, score)
+        let plausible = ALPHABETIC && self.punctuation_before(part, i);
+        let more = single::count_if(count, plausible);
+        let score = single::marked_gain(self.prev, current, ALPHABETIC, lent);
+        (
+            Self::bare(current, more, words.current, words.longest),
+            score,
+        )
     }
+}
 
-    // Byte i of a part.
-    fn step(
-        self,
-        part: &[u8],
-        i: usize,
-        classes: &[u8],
-        marks: &[u8],
-        pairs: &[i16],
-        weights: &[i32],
-    ) -> Stepped
-        requires sized { Sized (lent classes.now marks.now pairs.now weights.now) }
-        requires i_in_bounds { i < length part.now }
-        requires sound { Sound (2 * room) self }
-        requires rests { Rests marks.now i self.current_word_len self.prev }
-        ensures result_value { took_of result ≡ ran (rough_of (lent classes.now marks.now pairs.now weights.now) (noted part.now i self) (get_or part.now i 0)) }
-        ensures bounded_by { BoundedBy per_byte (took_of result) }
-    {
-        let class = classes[part[i] as usize];
-        if class == single::NO_CLASS {
-            return Stepped::Dropped;
-        }
-        let current = class % Self::CLASSES;
-        if single::is_non_latin_alphabetic(marks, current) {
-            return self.letter(part, i, current, marks, pairs, weights);
-        }
-        self.other(part, i, current, marks, pairs, weights)
+impl AsciiBefore for Visual {
+    ghost prev_ascii = { λ m. m.prev_ascii };
+
+    fn prev_ascii(self) -> bool {
+        self.prev_ascii
     }
+}
 
-    fn run_fit(
-        self,
-        part: &[u8],
-        classes: &[u8],
-        marks: &[u8],
-        pairs: &[i16],
-        weights: &[i32],
-    ) -> Ran
-        requires { Fit (lent classes.now marks.now pairs.now weights.now) (Sound room self) (length part.now) }
-        ensures value { result ≡ ran_as (last_at (step_of (lent classes.now marks.now pairs.now weights.now)) (alive self) part.now) (run (step_of (lent classes.now marks.now pairs.now weights.now)) (alive self) part.now) }
-        ensures bounded { Bounded (per_byte * length part.now) result }
-    {
-        let mut m = self;
-        let mut score: i64 = 0;
-        let mut i = 0;
-        while i < part.len() {
-            let Stepped::Live(next, gain) = m.step(part, i, classes, marks, pairs, weights) else {
-                return Ran::Dropped(Reason::Class255, i);
-            };
-            m = next;
-            score = score + gain;
-            i += 1;
-        }
-        Ran::Live(m.noted(part, i), score)
-    }
+impl SingleByte for Visual {
+    ghost step_of = { step_of };
 
-    // Whether no bound of n bytes excludes the record.
-    pub fn is_sound_for(self, n: u64) -> bool
-        ensures { result ≡ sound_b n self }
-    {
+    ghost Sound = { Sound };
+
+    ghost sound_b = { sound_b };
+
+    ghost noted = { noted };
+
+    ghost Rests = { RestsAt };
+
+    fn is_sound_for(self, n: u64) -> bool {
         self.plausible_punctuation <= n
             && single::is_common(n, self.prev, self.current_word_len, self.longest_word)
     }
 
-    // A part of a chunk, byte after byte.
-    pub fn run(
-        self,
-        part: &[u8],
-        classes: &[u8],
-        marks: &[u8],
-        pairs: &[i16],
-        weights: &[i32],
-    ) -> Ran
-        ensures value { result ≡ ran_of (lent classes.now marks.now pairs.now weights.now) self part.now }
-        ensures bounded { Bounded (per_byte * length part.now) result }
-    {
-        if single::is_fit(
-            self.is_sound_for(lengths::ROOM),
-            part.len(),
-            classes,
-            marks,
-            pairs,
-            weights,
-        ) {
-            // The test has shown both: said again so that no read in the loop is tested.
-            let mut m = self;
-            m.prev = self.prev % Self::CLASSES;
-            return m.run_fit(
-                part,
-                classes,
-                &marks[0..lengths::MARKS],
-                &pairs[0..lengths::PAIRS],
-                &weights[0..lengths::WEIGHTS],
-            );
+    fn again(self) -> Visual {
+        Visual {
+            prev: self.prev % Self::CLASSES,
+            ..self
         }
-        Ran::Unfit
     }
 
-    // The end of the stream: it counts as a space.
-    pub fn close(self, classes: &[u8], marks: &[u8], pairs: &[i16], weights: &[i32]) -> Ran
-        ensures value { result ≡ closed_of (lent classes.now marks.now pairs.now weights.now) self }
-        ensures bounded { Bounded per_byte result }
-    {
-        self.run(b" ", classes, marks, pairs, weights)
+    fn noted(self, part: &[u8], i: usize) -> Visual {
+        Visual {
+            prev_ascii: self.ascii_before(part, i),
+            prev_punctuation: self.punctuation_before(part, i),
+            ..self
+        }
     }
+
+    #[tactic(auto, using(crate::specs::Noted::step_drops, crate::specs::Noted::step_leaves))]
+    fn step(self, part: &[u8], i: usize, lent: &Lent) -> Option<(Visual, i64)> {
+        let class = lent.classes[part[i] as usize];
+        if class == single::NO_CLASS {
+            return None;
+        }
+        let current = class % Self::CLASSES;
+        if single::is_non_latin_alphabetic(lent.marks, current) {
+            return Some(self.scored::<true>(part, i, current, lent));
+        }
+        if single::is_at_rest(i, self.current_word_len) {
+            return Some(self.between(part, i, current, lent));
+        }
+        Some(self.scored::<false>(part, i, current, lent))
+    }
+
+    ghost sound = { is_sound };
+
+    ghost starts = { starts };
 }

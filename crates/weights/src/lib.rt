@@ -1,4 +1,5 @@
-// The 17 lent weights, by their indexes in document 01's order, and how one is read.
+// The 17 lent weights, by their indexes in document 01's order, and how one is read. Numbers and no enum: `weight` promises its
+// answer at any index of any list, past the 17 too (its clause `value`), and `demo` writes its lists by the same names.
 #![tactic(auto)]
 
 ghost use Rattle.std.specs.Prelude.{◌≡◌, ◌≤◌, pos, nat_abs, get_or};
@@ -43,8 +44,5 @@ pub fn weight(weights: &[i32], k: usize) -> i64
     ensures value { result ≡ get_or weights.now k (pos 0) }
     ensures result_bound { nat_abs result ≤ term }
 {
-    if k < weights.len() {
-        return weights[k] as i64;
-    }
-    0
+    weights.get(k).copied().unwrap_or(0) as i64
 }

@@ -4,6 +4,7 @@
 
 use scribe::STDIN_FILENO;
 
+// `slate` has this too, but for the function: shared, it would take the function as an argument, in as many lines.
 fn main() {
     let mut bytes = [0u8; label::READ];
     let n = io::read_full(STDIN_FILENO, &mut bytes);

@@ -7,6 +7,6 @@ pub returns-then-file-gt-MOST : goal.returns-then-file-gt-MOST
 unfolding answer_of
 returns-then-file-gt-MOST c = rw (lt-ltb _ _ c.if-file-gt-MOST.true) c.word.ensures
 
-pub returns : goal.returns
+pub returns-else-file-gt-MOST : goal.returns-else-file-gt-MOST
 unfolding answer_of
-returns c = rw (le-ltb _ _ c.if-file-gt-MOST.false) (rw c.fed.ensures at c.write.ensures)
+returns-else-file-gt-MOST c = rw (le-ltb _ _ c.if-file-gt-MOST.false) (rw c.fed.ensures at c.write.ensures)

@@ -6,4 +6,4 @@ use Rattle.account.proofs.count_lines.Goals as goal
 
 pub returns : goal.returns
 unfolding count_lines
-returns c = follow _ _ _ (follow _ _ _ (follow _ _ _ (follow _ _ _ (follow _ _ _ c.word-a.ensures c.decimal-b.ensures) (c.byte-c.ensures ∙ onto_one _ _)) c.word-d.ensures) c.decimal-e.ensures) (c.byte.ensures ∙ onto_one _ _)
+returns c = follow _ _ _ (follow _ _ _ (follow _ _ _ (follow _ _ _ (follow _ _ _ c.word.ensures c.decimal.ensures) (c.byte.ensures ∙ onto_one _ _)) c.word-2.ensures) c.decimal-2.ensures) (c.byte-2.ensures ∙ onto_one _ _)

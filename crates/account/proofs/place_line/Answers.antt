@@ -6,4 +6,4 @@ use Rattle.account.proofs.place_line.Goals as goal
 
 pub returns : goal.returns
 unfolding place_line
-returns c = follow _ _ _ (follow _ _ _ (follow _ _ _ c.place-a.ensures c.word-b.ensures) c.told-c.ensures) (c.byte.ensures ∙ onto_one _ _)
+returns c = follow _ _ _ (follow _ _ _ (follow _ _ _ c.place.ensures c.word.ensures) c.told.ensures) (c.byte.ensures ∙ onto_one _ _)

@@ -6,11 +6,11 @@ use Rattle.account.specs.Account.{told_text}
 use borrow.Author.Rules.{rules}
 use Rattle.account.proofs.told.Goals as goal
 
-pub returns-in-None : goal.returns-in-None
+pub returns-in-Err : goal.returns-in-Err
 unfolding told_text
-returns-in-None c = rw c.in-None.is c.dropped.ensures
+returns-in-Err c = rw c.in-Err.is c.dropped.ensures
 
-pub returns-in-Live : goal.returns-in-Live
+pub returns-in-Ok : goal.returns-in-Ok
 unfolding told_text
-returns-in-Live c =
-    rw c.in-Live.is (follow _ _ _ c.word-a.ensures (rw (thru w64 c.in-Live.n (record { sfits = search rules })) at c.signed.ensures))
+returns-in-Ok c =
+    rw c.in-Ok.is (follow _ _ _ c.word.ensures (rw (thru w64 c.in-Ok.n (record { sfits = search rules })) at c.signed.ensures))

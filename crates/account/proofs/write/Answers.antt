@@ -5,4 +5,4 @@ use Rattle.account.proofs.write.Goals as goal
 
 pub returns : goal.returns
 unfolding account_of
-returns c = follow _ _ _ (rw c.head_length-head.ensures at c.count_lines-a.ensures) (rw c.head_length-head.ensures at c.place_lines.ensures)
+returns c = follow _ _ _ (rw c.head_length-head.ensures at c.count_lines.ensures) (rw c.head_length-head.ensures at c.place_lines.ensures)

@@ -1,20 +1,12 @@
--- `has_trigger` meets its contract. The invariant: what was found or is still to find is what the whole block has.
--- The measure is what is left of the length.
-use mathlib.Core.Bool.{or-false}
-use native.Mathlib.Omega.{arith}
-use lib.ListN.{drop, length-drop}
-use Rattle.laws.specs.Lists.{any_turn, any_done}
+-- `has_trigger` meets its contract.
+use Rattle.std.specs.Prelude.{false, ◌||◌}
+use Rattle.std.proofs.Common.{rules, ◌∙◌}
+use Rattle.std.proofs.lemmas.Iterator.{YieldsList-from_slice}
+use Rattle.std.proofs.lemmas.Iterator.Consumers.{fold_from_yields_List}
+use Rattle.laws.specs.Lists.{fold_or_is}
 use Rattle.context.specs.Head.{is_trigger}
 use Rattle.context.proofs.has_trigger.Goals as goal
 
-pub loop-i-preserved : goal.loop-i-preserved
-loop-i-preserved c =
-    let l = c in
-    let xs = l.args.block.now in
-    (omega arith, any_turn is_trigger 0 xs l.loop-i.i c.loop-i-test.true l.loop-i.found c.is_trigger-found.result c.is_trigger-found.ensures l.loop-i.invariant.1)
-
 pub returns : goal.returns
 returns c =
-    let l = c in
-    let rest = drop l.loop-i.i l.args.block.now in
-    rw (any_done is_trigger rest (rw length-drop (omega arith)), or-false) at l.loop-i.invariant.1
+    fold_from_yields_List _ (λ t b. t || is_trigger b) false _ c.fold.ensures.ran (YieldsList-from_slice c.args.block.now cc) (λ a x b q k. search rules) ∙ fold_or_is is_trigger false c.args.block.now

@@ -1,37 +1,29 @@
--- `scan_from` meets its contract. The invariant: the scan of what is left, counted on from here, is the scan asked for.
--- The measure is what is left of the length.
-use mathlib.Core.Path.{sym, ◌∙◌}
-use Prim.Native.Nat.{◌<◌}
-use native.Mathlib.Omega.{arith}
-use lib.ListN.{length, drop, length-drop}
-use Rattle.context.specs.HeadLaws.{scan_done, turn_escape, turn_non_ascii, turn_triggerless}
+-- `scan_from` meets its contract: the bytes that it passes are the head of what stands from the offset on.
+use Rattle.std.specs.Prelude.{◌≡◌, ℕ, ◌+◌, drop, not}
+use Rattle.std.proofs.Common.{rules, tests, ◌∙◌, sym}
+use Rattle.std.proofs.lemmas.Iterator.{YieldsList-from_slice}
+use Rattle.std.proofs.lemmas.Iterator.Consumers.{YieldsList-at, count_from_yields_List}
+use Rattle.std.proofs.lemmas.Iterator.Search.{YieldsList-from_take_while}
+use Rattle.std.proofs.lemmas.List.Folds.{length-prefix_len}
+use Rattle.laws.specs.Lists.{rest_is}
+use Rattle.context.specs.Head.{is_trigger, scanned_at}
+use Rattle.context.specs.HeadLaws.{scan_from, scan_prefix, scanned_end, scanned_escape, scanned_non_ascii}
 use Rattle.context.proofs.scan_from.Goals as goal
-use Rattle.context.proofs.scan_from.Goals.{Else-at-chunk}
+use Rattle.context.proofs.scan_from.Goals.{After-count}
 
--- past the first test there is a byte to read
-more : (c : Else-at-chunk) → c.loop-at.at < length c.args.chunk.now
-more c = omega (arith, c.if-at-chunk.false)
+found : (c : After-count) → scan_from c.args.from (drop c.args.from c.args.chunk.now) ≡ scanned_at (c.args.from + c.count.result) (drop (c.args.from + c.count.result) c.args.chunk.now)
+found c =
+    let clear = λ (b : ℕ). not (is_trigger b) in
+    let rest = drop c.args.from c.args.chunk.now in
+    scan_prefix c.args.from c.count.result c.args.chunk.now (count_from_yields_List c.take_while.result _ c.count.ensures.ran (YieldsList-from_take_while _ clear (YieldsList-at c.take_while.ensures.source (YieldsList-from_slice rest (c.iter.ensures.rest ∙ rest_is c.args.from c.args.chunk.now))) c.take_while.ensures.closure c.take_while.ensures.done (λ x b q k. search (rules, tests))) ∙ length-prefix_len clear rest)
 
-pub loop-at-preserved : goal.loop-at-preserved
-loop-at-preserved c =
-    let e = (goal.at.loop-at-preserved c).Else-at-chunk in
-    let l = c in
-    (omega (arith, more e), turn_triggerless l.args.chunk.now l.loop-at.at (more e) c.if-b-eq27.false (sym c.is_non_ascii.ensures ∙ c.if-is_non_ascii.false) ∙ l.loop-at.invariant.1)
+pub returns-in-None : goal.returns-in-None
+returns-in-None c = scanned_end _ _ c.in-None.ensures.lookup.3 ∙ sym (found (goal.at.returns-in-None c).After-count)
 
-pub returns-then-at-chunk : goal.returns-then-at-chunk
-returns-then-at-chunk c =
-    let l = c in
-    let xs = l.args.chunk.now in
-    scan_done l.loop-at.at (drop l.loop-at.at xs) (rw length-drop (omega (arith, c.if-at-chunk.true))) ∙ l.loop-at.invariant.1
+pub returns-in-Some-eq27 : goal.returns-in-Some-eq27
+returns-in-Some-eq27 c =
+    let l = c.in-Some-eq27.ensures.lookup in scanned_escape _ _ l.3.0 (sym (l.3.1 0) ∙ c.in-Some-eq27.field-0-test) ∙ sym (found (goal.at.returns-in-Some-eq27 c).After-count)
 
-pub returns-then-b-eq27 : goal.returns-then-b-eq27
-returns-then-b-eq27 c =
-    let e = (goal.at.returns-then-b-eq27 c).Else-at-chunk in
-    let l = c in
-    turn_escape l.args.chunk.now l.loop-at.at (more e) c.if-b-eq27.true ∙ l.loop-at.invariant.1
-
-pub returns-then-is_non_ascii : goal.returns-then-is_non_ascii
-returns-then-is_non_ascii c =
-    let e = (goal.at.returns-then-is_non_ascii c).Else-at-chunk in
-    let l = c in
-    turn_non_ascii l.args.chunk.now l.loop-at.at (more e) c.if-b-eq27.false (sym c.is_non_ascii.ensures ∙ c.if-is_non_ascii.true) ∙ l.loop-at.invariant.1
+pub returns-in-Some : goal.returns-in-Some
+returns-in-Some c =
+    let l = c.in-Some.ensures.lookup in scanned_non_ascii _ _ l.3.0 (λ e. c.in-Some.field-0-test.1 (l.3.1 0 ∙ e)) ∙ sym (found (goal.at.returns-in-Some c).After-count)

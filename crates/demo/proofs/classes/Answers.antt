@@ -1,26 +1,15 @@
 -- `classes` meets its contract.
-use mathlib.Core.Path.{refl, sym, ◌∙◌}
-use native.Mathlib.Omega.{arith}
-use lib.ListN.{length-set}
-use Rattle.demo.specs.Demo.{class_of, classes}
-use Rattle.demo.specs.DemoLaws.{tabled_turn, tabled_done}
+use Rattle.std.proofs.Common.{◌≡◌, ℕ, zero, suc, map, rules, refl, ◌∙◌, add-one}
+use Rattle.std.specs.List.{range_with_len}
+use Rattle.std.proofs.lemmas.List.FromFn.{fill_by_all}
+use Rattle.demo.specs.Demo.{tabled, class_of, classes}
 use Rattle.demo.proofs.classes.Goals as goal
 
-pub loop-i-init : goal.loop-i-init
-unfolding classes
-loop-i-init c = (omega arith, (refl, refl))
-
-pub loop-i-preserved : goal.loop-i-preserved
-loop-i-preserved c =
-    let l = c.loop-i in (
-      omega arith,
-      (
-        simp length-set (omega arith),
-        tabled_turn class_of 256 l.to l.i _ l.invariant.1.0 c.loop-i-test.true c.class.ensures ∙ l.invariant.1.1,
-      ),
-    )
+tabled_is : (f : ℕ → ℕ) (k n : ℕ) → map f (range_with_len k n) ≡ tabled f k n
+unfolding tabled
+tabled_is f k zero = refl
+tabled_is f k (suc n) = rw (add-one, tabled_is f (suc k) n)
 
 pub returns : goal.returns
-returns c =
-    let l = c.loop-i in
-    sym (tabled_done class_of 256 l.to l.i l.invariant.1.0 c.loop-i-test.false) ∙ l.invariant.1.1
+unfolding classes
+returns c = fill_by_all class_of c.from_fn.result 256 0 c.from_fn.ensures.items.long (λ k h. let q = c.from_fn.ensures.items.at k 0 h in search rules) ∙ tabled_is class_of 0 256

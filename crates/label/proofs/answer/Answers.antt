@@ -7,6 +7,6 @@ pub returns-then-label-gt-MOST : goal.returns-then-label-gt-MOST
 unfolding answer_of
 returns-then-label-gt-MOST c = rw (lt-ltb _ _ c.if-label-gt-MOST.true) c.word.ensures
 
-pub returns : goal.returns
+pub returns-else-label-gt-MOST : goal.returns-else-label-gt-MOST
 unfolding answer_of
-returns c = rw (le-ltb _ _ c.if-label-gt-MOST.false) (rw c.fed.ensures at c.write.ensures)
+returns-else-label-gt-MOST c = rw (le-ltb _ _ c.if-label-gt-MOST.false) (rw c.fed.ensures at c.write.ensures)

@@ -4,4 +4,4 @@ use Rattle.scribe.specs.PageLaws.{follow, onto_one}
 use Rattle.sheet.proofs.count_line.Goals as goal
 
 pub returns : goal.returns
-returns c = follow _ _ _ (follow _ _ _ c.word-a.ensures c.decimal-b.ensures) (c.byte.ensures ∙ onto_one _ _)
+returns c = follow _ _ _ (follow _ _ _ c.word.ensures c.decimal.ensures) (c.byte.ensures ∙ onto_one _ _)

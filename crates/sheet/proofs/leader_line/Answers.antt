@@ -6,4 +6,4 @@ use Rattle.sheet.proofs.leader_line.Goals as goal
 
 pub returns : goal.returns
 unfolding leader_line
-returns c = follow _ _ _ (follow _ _ _ c.word-a.ensures c.leader_name-b.ensures) (c.byte.ensures ∙ onto_one _ _)
+returns c = follow _ _ _ (follow _ _ _ c.word.ensures c.leader_name.ensures) (c.byte.ensures ∙ onto_one _ _)

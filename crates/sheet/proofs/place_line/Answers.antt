@@ -6,4 +6,4 @@ use Rattle.sheet.proofs.place_line.Goals as goal
 
 pub returns : goal.returns
 unfolding place_line
-returns c = follow _ _ _ (follow _ _ _ (follow _ _ _ c.place-a.ensures (c.byte-b.ensures ∙ onto_one _ _)) c.score-c.ensures) (c.byte.ensures ∙ onto_one _ _)
+returns c = follow _ _ _ (follow _ _ _ (follow _ _ _ c.place.ensures (c.byte.ensures ∙ onto_one _ _)) c.score.ensures) (c.byte-2.ensures ∙ onto_one _ _)

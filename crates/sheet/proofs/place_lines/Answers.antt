@@ -1,24 +1,14 @@
 -- `place_lines` meets its contract.
-use mathlib.Core.Path.{sym, ◌∙◌}
-use native.Mathlib.Omega.{arith}
-use Rattle.scribe.specs.Page.{page}
+use Rattle.std.proofs.Common.{sym, ◌∙◌, arith}
 use Rattle.sheet.specs.SheetLaws.{lines_turn, lines_done}
 use Rattle.sheet.proofs.place_lines.Goals as goal
 
 pub loop-k-preserved : goal.loop-k-preserved
 loop-k-preserved c =
-    let l = c.loop-k in (
-      omega arith,
-      (
-        l.invariant.1.0,
-        (
-          c.place_line-to.auto.out ∙ l.invariant.1.1.0,
-          lines_turn (page l.out l.to) _ _ l.k _ (omega (arith, l.invariant.1.0, c.loop-k-test.true)) c.place_line-to.ensures ∙ l.invariant.1.1.1,
-        ),
-      ),
-    )
+    let i = c.loop-k.invariant in
+    (i.0, lines_turn _ _ _ c.loop-k.k _ (omega (arith, i.0, c.loop-k-test.true)) c.place_line.ensures ∙ i.1)
 
 pub returns : goal.returns
 returns c =
-    let l = c.loop-k in
-    sym (lines_done (page l.out l.to) c.args.slate l.k (omega (arith, l.invariant.1.0, c.loop-k-test.false))) ∙ l.invariant.1.1.1
+    let i = c.loop-k.invariant in
+    sym (lines_done c.loop-k.out c.args.slate c.loop-k.k (omega (arith, i.0, c.loop-k-test.false))) ∙ i.1

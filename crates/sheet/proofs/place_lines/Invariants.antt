@@ -1,13 +1,8 @@
--- `place_lines` meets its contract.
-use mathlib.Core.Path.{◌≡◌}
-use Prim.Native.Nat.{◌≤◌, ◌-◌}
-use lib.ListN.{length, drop}
-use Rattle.scribe.specs.Page.{page, onto}
+-- What is left, written from here on, gives what the whole gives from the start.
+use Rattle.std.proofs.Common.{◌≡◌, length, drop}
+use Rattle.scribe.specs.Page.{onto}
 use Rattle.sheet.specs.Sheet.{place_lines}
 use Rattle.sheet.proofs.place_lines.Given as goal
 
 abbrev pub invariant-loop-k : goal.invariant-loop-k
-invariant-loop-k l = (l.k ≤ 9) × ((length l.slate ≡ 9) × ((length l.out ≡ length l.initial.out) × (onto (page l.out l.to) (place_lines l.k (drop l.k l.slate)) ≡ onto (page l.initial.out l.at) (place_lines 0 l.slate))))
-
-abbrev pub decreases-loop-k : goal.decreases-loop-k
-decreases-loop-k l = 9 - l.k
+invariant-loop-k l = (length l.place-items ≡ 9) × (onto l.out (place_lines l.k (drop l.k l.place-items)) ≡ onto l.initial.out (place_lines 0 l.fn.slate))

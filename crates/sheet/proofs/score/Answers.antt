@@ -5,11 +5,11 @@ use Rattle.sheet.specs.Sheet.{score_text}
 use borrow.Author.Rules.{rules}
 use Rattle.sheet.proofs.score.Goals as goal
 
-pub returns-in-None : goal.returns-in-None
+pub returns-in-Err : goal.returns-in-Err
 unfolding score_text
-returns-in-None c = rw c.in-None.is c.word.ensures
+returns-in-Err c = rw c.in-Err.is c.word.ensures
 
-pub returns-in-Live : goal.returns-in-Live
+pub returns-in-Ok : goal.returns-in-Ok
 unfolding score_text
-returns-in-Live c =
-    rw c.in-Live.is (rw (thru w64 c.in-Live.n (record { sfits = search rules })) at c.signed.ensures)
+returns-in-Ok c =
+    rw c.in-Ok.is (rw (thru w64 c.in-Ok.n (record { sfits = search rules })) at c.signed.ensures)

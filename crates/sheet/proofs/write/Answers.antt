@@ -5,4 +5,4 @@ use Rattle.sheet.proofs.write.Goals as goal
 
 pub returns : goal.returns
 unfolding sheet_of
-returns c = follow _ _ _ (follow _ _ _ (follow _ _ _ (follow _ _ _ c.word-a.ensures c.count_line-b.ensures) c.count_line-c.ensures) c.place_lines-d.ensures) (rw c.of.ensures at c.leader_line.ensures)
+returns c = follow _ _ _ (follow _ _ _ (follow _ _ _ (follow _ _ _ c.word.ensures c.count_line.ensures) c.count_line-2.ensures) c.place_lines.ensures) (rw c.of.ensures at c.leader_line.ensures)

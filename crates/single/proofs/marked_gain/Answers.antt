@@ -12,16 +12,18 @@ reads z h = thru64 z term h (omega arith)
 pub returns-then-is_beside-clause-value : goal.returns-then-is_beside-clause-value
 returns-then-is_beside-clause-value c =
     let s = c.args in
+    let t = s.lent.now in
     let p = c.pair_score-score in
     let sum = p.result +ℤ c.weight.result in
     let small : nat_abs sum ≤ 4294967296 = omega (arith, abs_add p.result c.weight.result, p.ensures.result_bound, c.weight.ensures.result_bound) in
     let e = thru64 sum 4294967296 small (omega arith) in
     rw (reads p.result p.ensures.result_bound, reads c.weight.result c.weight.ensures.result_bound, e)
-    (marked_latin s.marks.now s.pairs.now s.weights.now s.alphabetic s.prev s.current sum _ c.is_beside.ensures c.if-is_beside.true (rw (p.ensures.value, c.weight.ensures.value)))
+    (marked_latin t.marks.now t.pairs.now t.weights.now s.alphabetic s.prev s.current sum _ c.is_beside.ensures c.if-is_beside.true (rw (p.ensures.value, c.weight.ensures.value)))
 
 pub returns-clause-value : goal.returns-clause-value
 returns-clause-value c =
     let s = c.args in
+    let t = s.lent.now in
     let p = c.pair_score-score in
     rw (reads p.result p.ensures.result_bound)
-    (marked_plain s.marks.now s.pairs.now s.weights.now s.alphabetic s.prev s.current p.result _ c.is_beside.ensures c.if-is_beside.false p.ensures.value)
+    (marked_plain t.marks.now t.pairs.now t.weights.now s.alphabetic s.prev s.current p.result _ c.is_beside.ensures c.if-is_beside.false p.ensures.value)

@@ -6,4 +6,4 @@ use Rattle.spot.proofs.at_byte.Goals as goal
 
 pub returns : goal.returns
 unfolding byte_text
-returns c = follow _ _ _ (follow _ _ _ (follow _ _ _ (follow _ _ _ c.word-a.ensures c.decimal-b.ensures) (c.byte-c.ensures ∙ onto_one _ _)) c.before-d.ensures) c.marked.ensures
+returns c = follow _ _ _ (follow _ _ _ (follow _ _ _ (follow _ _ _ c.word.ensures c.decimal.ensures) (c.byte.ensures ∙ onto_one _ _)) c.before-2.ensures) c.marked.ensures

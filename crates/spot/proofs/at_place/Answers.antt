@@ -10,10 +10,10 @@ pub returns-then-place-eq0 : goal.returns-then-place-eq0
 unfolding at_place_text
 returns-then-place-eq0 c = rw (eq-eqb _ _ c.if-place-eq0.true) c.word.ensures
 
-pub returns-then-place-less : goal.returns-then-place-less
+pub returns-then-place-saturating_sub : goal.returns-then-place-saturating_sub
 unfolding at_place_text
-returns-then-place-less c = let a = c.args in rw (ne_eqb _ _ c.if-place-eq0.false, lt-ltb (a.place - 1) (length a.file.now - a.head) (rw c.less.ensures at c.if-place-less.true)) c.at_byte.ensures
+returns-then-place-saturating_sub c = let a = c.args in rw (ne_eqb _ _ c.if-place-eq0.false, lt-ltb (a.place - 1) (length a.file.bytes.now - a.file.head) (rw c.saturating_sub.ensures at c.if-place-saturating_sub.true)) c.at_byte.ensures
 
-pub returns : goal.returns
+pub returns-else-place-saturating_sub : goal.returns-else-place-saturating_sub
 unfolding at_place_text
-returns c = let a = c.args in rw (ne_eqb _ _ c.if-place-eq0.false, le-ltb (a.place - 1) (length a.file.now - a.head) (rw c.less.ensures at c.if-place-less.false)) (follow _ _ _ c.word-a.ensures c.at_end.ensures)
+returns-else-place-saturating_sub c = let a = c.args in rw (ne_eqb _ _ c.if-place-eq0.false, le-ltb (a.place - 1) (length a.file.bytes.now - a.file.head) (rw c.saturating_sub.ensures at c.if-place-saturating_sub.false)) (follow _ _ _ c.word-else-place-saturating_sub.ensures c.at_end.ensures)

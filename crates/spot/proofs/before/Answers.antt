@@ -4,4 +4,4 @@ use Rattle.spot.proofs.before.Goals as goal
 
 pub returns : goal.returns
 unfolding before_text
-returns c = rw c.less-from.ensures at c.hexes.ensures
+returns c = rw c.saturating_sub-from.ensures at c.hexes.ensures

@@ -5,4 +5,4 @@ use Rattle.spot.proofs.dropped.Goals as goal
 
 pub returns : goal.returns
 unfolding spot_text
-returns c = follow _ _ _ c.why-a.ensures c.location.ensures
+returns c = follow _ _ _ c.why.ensures c.location.ensures

@@ -1,20 +1,11 @@
--- `hexes` meets its contract: what is left, written from here on, gives what the whole gives from the start.
-use mathlib.Core.Path.{sym, ◌∙◌}
-use native.Mathlib.Omega.{arith}
-use Rattle.scribe.specs.Page.{page}
+-- `hexes` meets its contract.
+use Rattle.std.proofs.Common.{sym, ◌∙◌}
 use Rattle.scribe.specs.PageLaws.{follow, onto_one}
 use Rattle.spot.specs.SpotLaws.{hexes_turn, hexes_done}
 use Rattle.spot.proofs.hexes.Goals as goal
 
-pub loop-i-preserved : goal.loop-i-preserved
-loop-i-preserved c =
-    let l = c.loop-i in (
-      omega arith,
-      (
-        c.hex-to.auto.out ∙ (c.byte-digits.auto.out ∙ l.invariant.1.0),
-        hexes_turn (page l.out l.to) _ _ l.i c.loop-i-test.true (follow _ _ _ (c.byte-digits.ensures ∙ onto_one _ _) c.hex-to.ensures) ∙ l.invariant.1.1,
-      ),
-    )
+pub loop-b-preserved : goal.loop-b-preserved
+loop-b-preserved c = hexes_turn _ _ _ c.loop-b.b-index c.loop-b-test.true (follow _ _ _ (c.byte.ensures ∙ onto_one _ _) c.hex.ensures) ∙ c.loop-b.invariant
 
 pub returns : goal.returns
-returns c = sym (hexes_done _ _ c.loop-i.i c.loop-i-test.false) ∙ c.loop-i.invariant.1.1
+returns c = sym (hexes_done _ _ c.loop-b.b-index c.loop-b-test.false) ∙ c.loop-b.invariant

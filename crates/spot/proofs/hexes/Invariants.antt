@@ -1,13 +1,8 @@
--- `hexes` meets its contract: what is left, written from here on, gives what the whole gives from the start.
-use mathlib.Core.Path.{◌≡◌}
-use Prim.Native.Nat.{◌≤◌, ◌-◌}
-use lib.ListN.{length, drop}
-use Rattle.scribe.specs.Page.{page, onto}
+-- What is left, written from here on, gives what the whole gives from the start.
+use Rattle.std.proofs.Common.{◌≡◌, drop}
+use Rattle.scribe.specs.Page.{onto}
 use Rattle.spot.specs.Spot.{spaced_hexes}
 use Rattle.spot.proofs.hexes.Given as goal
 
-abbrev pub invariant-loop-i : goal.invariant-loop-i
-invariant-loop-i l = (l.i ≤ length l.bytes) × ((length l.out ≡ length l.initial.out) × (onto (page l.out l.to) (spaced_hexes (drop l.i l.bytes)) ≡ onto (page l.initial.out l.at) (spaced_hexes l.bytes)))
-
-abbrev pub decreases-loop-i : goal.decreases-loop-i
-decreases-loop-i l = length l.bytes - l.i
+abbrev pub invariant-loop-b : goal.invariant-loop-b
+invariant-loop-b l = onto l.out (spaced_hexes (drop l.b-index l.bytes)) ≡ onto l.initial.out (spaced_hexes l.bytes)

@@ -27,4 +27,4 @@ unfolding where_text onto
 returns-in-NotInSlate c = rw c.in-NotInSlate.is
 
 pub returns-in_default : goal.returns-in_default
-returns-in_default c = let a = c.args in c.at_place.ensures ∙ ap (onto _) (of_byte a.file.now a.head a.reason a.place c.in_default.not-CutAtClose c.in_default.not-NotInSlate)
+returns-in_default c = let a = c.args in c.at_place.ensures ∙ ap (onto _) (of_byte a.file.bytes.now a.file.head a.reason a.place c.in_default.not-CutAtClose c.in_default.not-NotInSlate)

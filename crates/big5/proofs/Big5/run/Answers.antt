@@ -2,7 +2,7 @@
 use mathlib.Core.Path.{sym, ◌∙◌}
 use Rattle.laws.specs.Answer.{if_unfit}
 use Rattle.big5.specs.Big5.{Ready, ran_of}
-use Rattle.big5.specs.Big5Laws.{ready_true, ran_ready}
+use Rattle.big5.proofs.Big5Laws.{ready_true, ran_ready}
 use Rattle.big5.proofs.Big5.run.Goals as goal
 use Rattle.big5.proofs.Big5.run.Goals.{Then-is_ready}
 
@@ -27,4 +27,4 @@ returns-then-is_ready-clause-value c =
 
 pub returns-clause-value : goal.returns-clause-value
 unfolding ran_of
-returns-clause-value c = sym (if_unfit _ _ _ _ _ _ (sym c.is_ready.ensures ∙ c.if-is_ready.false))
+returns-clause-value c = sym (if_unfit _ _ (sym c.is_ready.ensures ∙ c.if-is_ready.false))

@@ -1,4 +1,5 @@
 -- `feed` meets its contract.
+use Rattle.std.specs.Prelude.{Ok}
 use mathlib.Core.Bool.{Bool}
 use mathlib.Core.Path.{◌≡◌, sym, ap, ◌∙◌}
 use mathlib.Core.List.{List, [], ◌∷◌}
@@ -10,15 +11,13 @@ use Rattle.tables.specs.Tables.{Tables, sized_b}
 use Rattle.state.specs.Order.{InOrder}
 use Rattle.places.specs.Fed.{fed_each, slate_fed, AllKnown, SlateKnown}
 use Rattle.places.specs.declared.place.Place.{Place}
-use Rattle.detector.specs.Feed.{verdict_of, refusal_of, advance_of, accepted, feed_of}
+use Rattle.detector.specs.Feed.{Verdict, verdict_of, refusal_of, advance_of, accepted, feed_of}
 use Rattle.detector.specs.FeedLaws.{refused_stays, accept_passed, feed_refused, feed_accepted, body_short, way_nothing, way_part, way_after}
 use Rattle.detector.specs.Front.{trigger_of, counted, uncounted}
 use Rattle.detector.specs.Due.{DueBy, WithinBy, Roomy}
 use Rattle.detector.specs.FrontLaws.{part_within, after_within, after_new}
 use Rattle.detector.specs.Kept.{Passed, StaysIn}
 use Rattle.detector.specs.declared.feed.Fed.{Fed}
-use Rattle.detector.specs.declared.feed.Verdict.{Verdict}
-use Rattle.detector.specs.declared.feed.Verdict.TheVariants.{Accept}
 use Rattle.detector.specs.declared.front.Due.{Due}
 use Rattle.detector.specs.declared.front.Due.TheVariants.{Nothing, Part, After}
 use Rattle.detector.specs.declared.front.Trigger.{Trigger}
@@ -31,8 +30,8 @@ module _ (t : Tables) (s : State) (xs : List ℕ) (last sized : Bool) (v : Verdi
   verdict = rw z at j
 
   -- the chunk was accepted
-  module _ (a : v ≡ Accept) where
-    accepts : Accept ≡ refusal_of t s xs
+  module _ (a : v ≡ Ok tt) where
+    accepts : Ok tt ≡ refusal_of t s xs
     accepts = sym a ∙ verdict
 
     passed : Passed t s xs
@@ -90,43 +89,43 @@ module _ (t : Tables) (s : State) (xs : List ℕ) (last sized : Bool) (v : Verdi
             way_after t s xs last passed d due_is n q (after_within s.front xs g gi d w n q).1 (after_new s.front xs g gi d w n q) (take n saved) (ap (take n) h) next front r uncounted_is b e k.0 k.1
 
 pub uncounted-next-requires : goal.uncounted-next-requires
-uncounted-next-requires c = roomy_before _ c.args.state c.args.chunk.now c.args.last _ _ c.are_sized-sized.ensures c.judged.ensures c.in-Accept.is
+uncounted-next-requires c = roomy_before _ c.args.state c.args.chunk.now c.args.last _ _ c.are_sized-sized.ensures c.judged.ensures c.in-Ok.is
 
 pub slice_bounds-part-count : goal.slice_bounds-part-count
-slice_bounds-part-count c = from_within _ c.args.state c.args.chunk.now c.args.last _ _ c.are_sized-sized.ensures c.judged.ensures c.in-Accept.is _ _ c.trigger_in-trigger.ensures c.uncounted-next.ensures _ c.due_by.ensures.due_by c.due_by.ensures.within_by c.in-Part.from c.in-Part.is
+slice_bounds-part-count c = from_within _ c.args.state c.args.chunk.now c.args.last _ _ c.are_sized-sized.ensures c.judged.ensures c.in-Ok.is _ _ c.trigger_in-trigger.ensures c.uncounted-next.ensures _ c.due_by.ensures.due_by c.due_by.ensures.within_by c.in-Part.from c.in-Part.is
 
 pub slice_bounds-part-start : goal.slice_bounds-part-start
-slice_bounds-part-start c = from_within _ c.args.state c.args.chunk.now c.args.last _ _ c.are_sized-sized.ensures c.judged.ensures c.in-Accept.is _ _ c.trigger_in-trigger.ensures c.uncounted-next.ensures _ c.due_by.ensures.due_by c.due_by.ensures.within_by c.in-Part.from c.in-Part.is
+slice_bounds-part-start c = from_within _ c.args.state c.args.chunk.now c.args.last _ _ c.are_sized-sized.ensures c.judged.ensures c.in-Ok.is _ _ c.trigger_in-trigger.ensures c.uncounted-next.ensures _ c.due_by.ensures.due_by c.due_by.ensures.within_by c.in-Part.from c.in-Part.is
 
 pub counted-requires : goal.counted-requires
 counted-requires c =
     let xs = c.args.chunk.now in
     let n = c.in-Part.from in
-    roomy _ c.args.state c.args.chunk.now c.args.last _ _ c.are_sized-sized.ensures c.judged.ensures c.in-Accept.is _ _ c.trigger_in-trigger.ensures c.uncounted-next.ensures (take (length xs - n) (drop n xs)) (rw (rest_is, length-drop) (omega arith))
+    roomy _ c.args.state c.args.chunk.now c.args.last _ _ c.are_sized-sized.ensures c.judged.ensures c.in-Ok.is _ _ c.trigger_in-trigger.ensures c.uncounted-next.ensures (take (length xs - n) (drop n xs)) (rw (rest_is, length-drop) (omega arith))
 
 pub counted-requires-in-After : goal.counted-requires-in-After
-counted-requires-in-After c = roomy _ c.args.state c.args.chunk.now c.args.last _ _ c.are_sized-sized.ensures c.judged.ensures c.in-Accept.is _ _ c.trigger_in-trigger.ensures c.uncounted-next.ensures c.args.chunk.now (omega arith)
+counted-requires-in-After c = roomy _ c.args.state c.args.chunk.now c.args.last _ _ c.are_sized-sized.ensures c.judged.ensures c.in-Ok.is _ _ c.trigger_in-trigger.ensures c.uncounted-next.ensures c.args.chunk.now (omega arith)
 
-pub returns-in-Refuse-clause-value : goal.returns-in-Refuse-clause-value
-returns-in-Refuse-clause-value c = feed_refused _ c.args.state c.args.chunk.now c.args.last c.in-Refuse.reply (sym c.in-Refuse.is ∙ verdict _ c.args.state c.args.chunk.now c.args.last _ _ c.are_sized-sized.ensures c.judged.ensures)
+pub returns-in-Err-clause-value : goal.returns-in-Err-clause-value
+returns-in-Err-clause-value c = feed_refused _ c.args.state c.args.chunk.now c.args.last c.in-Err.reply (sym c.in-Err.is ∙ verdict _ c.args.state c.args.chunk.now c.args.last _ _ c.are_sized-sized.ensures c.judged.ensures)
 
-pub returns-in-Refuse-clause-stays_in : goal.returns-in-Refuse-clause-stays_in
-returns-in-Refuse-clause-stays_in c = refused_stays c.args.state (length c.args.chunk.now) _ c.in-Refuse.reply (sym c.in-Refuse.is ∙ c.judged.ensures)
+pub returns-in-Err-clause-stays_in : goal.returns-in-Err-clause-stays_in
+returns-in-Err-clause-stays_in c = refused_stays c.args.state (length c.args.chunk.now) _ c.in-Err.reply (sym c.in-Err.is ∙ c.judged.ensures)
 
 pub returns-in-Nothing-clause-value : goal.returns-in-Nothing-clause-value
-returns-in-Nothing-clause-value c = done _ c.args.state c.args.chunk.now c.args.last _ _ c.are_sized-sized.ensures c.judged.ensures c.in-Accept.is _ (nothing_way _ c.args.state c.args.chunk.now c.args.last _ _ c.are_sized-sized.ensures c.judged.ensures c.in-Accept.is _ _ c.trigger_in-trigger.ensures c.uncounted-next.ensures _ c.due_by.ensures.due_by c.in-Nothing.is) c.accepted.result c.accepted.ensures
+returns-in-Nothing-clause-value c = done _ c.args.state c.args.chunk.now c.args.last _ _ c.are_sized-sized.ensures c.judged.ensures c.in-Ok.is _ (nothing_way _ c.args.state c.args.chunk.now c.args.last _ _ c.are_sized-sized.ensures c.judged.ensures c.in-Ok.is _ _ c.trigger_in-trigger.ensures c.uncounted-next.ensures _ c.due_by.ensures.due_by c.in-Nothing.is) c.accepted.result c.accepted.ensures
 
 pub returns-in-Nothing-clause-stays_in : goal.returns-in-Nothing-clause-stays_in
-returns-in-Nothing-clause-stays_in c = stays _ c.args.state c.args.chunk.now c.args.last _ _ c.are_sized-sized.ensures c.judged.ensures c.in-Accept.is _ (nothing_way _ c.args.state c.args.chunk.now c.args.last _ _ c.are_sized-sized.ensures c.judged.ensures c.in-Accept.is _ _ c.trigger_in-trigger.ensures c.uncounted-next.ensures _ c.due_by.ensures.due_by c.in-Nothing.is) c.accepted.result c.accepted.ensures
+returns-in-Nothing-clause-stays_in c = stays _ c.args.state c.args.chunk.now c.args.last _ _ c.are_sized-sized.ensures c.judged.ensures c.in-Ok.is _ (nothing_way _ c.args.state c.args.chunk.now c.args.last _ _ c.are_sized-sized.ensures c.judged.ensures c.in-Ok.is _ _ c.trigger_in-trigger.ensures c.uncounted-next.ensures _ c.due_by.ensures.due_by c.in-Nothing.is) c.accepted.result c.accepted.ensures
 
 pub returns-in-Part-clause-value : goal.returns-in-Part-clause-value
-returns-in-Part-clause-value c = done _ c.args.state c.args.chunk.now c.args.last _ _ c.are_sized-sized.ensures c.judged.ensures c.in-Accept.is _ (part_way _ c.args.state c.args.chunk.now c.args.last _ _ c.are_sized-sized.ensures c.judged.ensures c.in-Accept.is _ _ c.trigger_in-trigger.ensures c.uncounted-next.ensures _ c.due_by.ensures.due_by c.in-Part.from c.in-Part.is c.counted.result c.feed-fed.result c.counted.ensures c.feed-fed.ensures.value c.feed-fed.ensures.slate_known) c.accepted-in-Part.result c.accepted-in-Part.ensures
+returns-in-Part-clause-value c = done _ c.args.state c.args.chunk.now c.args.last _ _ c.are_sized-sized.ensures c.judged.ensures c.in-Ok.is _ (part_way _ c.args.state c.args.chunk.now c.args.last _ _ c.are_sized-sized.ensures c.judged.ensures c.in-Ok.is _ _ c.trigger_in-trigger.ensures c.uncounted-next.ensures _ c.due_by.ensures.due_by c.in-Part.from c.in-Part.is c.counted.result c.feed-fed.result c.counted.ensures c.feed-fed.ensures.value c.feed-fed.ensures.slate_known) c.accepted-in-Part.result c.accepted-in-Part.ensures
 
 pub returns-in-Part-clause-stays_in : goal.returns-in-Part-clause-stays_in
-returns-in-Part-clause-stays_in c = stays _ c.args.state c.args.chunk.now c.args.last _ _ c.are_sized-sized.ensures c.judged.ensures c.in-Accept.is _ (part_way _ c.args.state c.args.chunk.now c.args.last _ _ c.are_sized-sized.ensures c.judged.ensures c.in-Accept.is _ _ c.trigger_in-trigger.ensures c.uncounted-next.ensures _ c.due_by.ensures.due_by c.in-Part.from c.in-Part.is c.counted.result c.feed-fed.result c.counted.ensures c.feed-fed.ensures.value c.feed-fed.ensures.slate_known) c.accepted-in-Part.result c.accepted-in-Part.ensures
+returns-in-Part-clause-stays_in c = stays _ c.args.state c.args.chunk.now c.args.last _ _ c.are_sized-sized.ensures c.judged.ensures c.in-Ok.is _ (part_way _ c.args.state c.args.chunk.now c.args.last _ _ c.are_sized-sized.ensures c.judged.ensures c.in-Ok.is _ _ c.trigger_in-trigger.ensures c.uncounted-next.ensures _ c.due_by.ensures.due_by c.in-Part.from c.in-Part.is c.counted.result c.feed-fed.result c.counted.ensures c.feed-fed.ensures.value c.feed-fed.ensures.slate_known) c.accepted-in-Part.result c.accepted-in-Part.ensures
 
 pub returns-in-After-clause-value : goal.returns-in-After-clause-value
-returns-in-After-clause-value c = done _ c.args.state c.args.chunk.now c.args.last _ _ c.are_sized-sized.ensures c.judged.ensures c.in-Accept.is _ (after_way _ c.args.state c.args.chunk.now c.args.last _ _ c.are_sized-sized.ensures c.judged.ensures c.in-Accept.is _ _ c.trigger_in-trigger.ensures c.uncounted-next.ensures _ c.due_by.ensures.due_by c.due_by.ensures.within_by c.in-After.count c.in-After.is c.bytes-saved.result c.bytes-saved.ensures c.counted-in-After.result c.feed_after-fed.result c.counted-in-After.ensures c.feed_after-fed.ensures.value c.feed_after-fed.ensures.all_known) c.accepted-in-After.result c.accepted-in-After.ensures
+returns-in-After-clause-value c = done _ c.args.state c.args.chunk.now c.args.last _ _ c.are_sized-sized.ensures c.judged.ensures c.in-Ok.is _ (after_way _ c.args.state c.args.chunk.now c.args.last _ _ c.are_sized-sized.ensures c.judged.ensures c.in-Ok.is _ _ c.trigger_in-trigger.ensures c.uncounted-next.ensures _ c.due_by.ensures.due_by c.due_by.ensures.within_by c.in-After.count c.in-After.is c.bytes-saved.result c.bytes-saved.ensures c.counted-in-After.result c.feed_after-fed.result c.counted-in-After.ensures c.feed_after-fed.ensures.value c.feed_after-fed.ensures.all_known) c.accepted-in-After.result c.accepted-in-After.ensures
 
 pub returns-in-After-clause-stays_in : goal.returns-in-After-clause-stays_in
-returns-in-After-clause-stays_in c = stays _ c.args.state c.args.chunk.now c.args.last _ _ c.are_sized-sized.ensures c.judged.ensures c.in-Accept.is _ (after_way _ c.args.state c.args.chunk.now c.args.last _ _ c.are_sized-sized.ensures c.judged.ensures c.in-Accept.is _ _ c.trigger_in-trigger.ensures c.uncounted-next.ensures _ c.due_by.ensures.due_by c.due_by.ensures.within_by c.in-After.count c.in-After.is c.bytes-saved.result c.bytes-saved.ensures c.counted-in-After.result c.feed_after-fed.result c.counted-in-After.ensures c.feed_after-fed.ensures.value c.feed_after-fed.ensures.all_known) c.accepted-in-After.result c.accepted-in-After.ensures
+returns-in-After-clause-stays_in c = stays _ c.args.state c.args.chunk.now c.args.last _ _ c.are_sized-sized.ensures c.judged.ensures c.in-Ok.is _ (after_way _ c.args.state c.args.chunk.now c.args.last _ _ c.are_sized-sized.ensures c.judged.ensures c.in-Ok.is _ _ c.trigger_in-trigger.ensures c.uncounted-next.ensures _ c.due_by.ensures.due_by c.due_by.ensures.within_by c.in-After.count c.in-After.is c.bytes-saved.result c.bytes-saved.ensures c.counted-in-After.result c.feed_after-fed.result c.counted-in-After.ensures c.feed_after-fed.ensures.value c.feed_after-fed.ensures.all_known) c.accepted-in-After.result c.accepted-in-After.ensures

@@ -30,4 +30,4 @@ returns-then-is_ready-clause-value c =
 
 pub returns-clause-value : goal.returns-clause-value
 unfolding ran_of
-returns-clause-value c = sym (if_unfit _ _ _ _ _ _ (sym c.is_ready.ensures ∙ c.if-is_ready.false))
+returns-clause-value c = sym (if_unfit _ _ (sym c.is_ready.ensures ∙ c.if-is_ready.false))

@@ -1,6 +1,4 @@
--- `EucKr::run_fit` meets its contract: the loop of `Going`, whose measure is what is left of the part.
-use Prim.Native.Nat.{◌-◌}
-use lib.ListN.{length}
+-- `EucKr::run_fit` meets its contract: the loop of `Going`.
 use Rattle.laws.specs.Going.{Going}
 use Rattle.laws.specs.Limit.{room}
 use Rattle.weights.specs.Weights.{per_byte}
@@ -10,6 +8,3 @@ use Rattle.euckr.proofs.EucKr.run_fit.Given as goal
 
 abbrev pub invariant-loop-i : goal.invariant-loop-i
 invariant-loop-i l = Going (step_of (lent l.index l.extras l.w)) Sound per_byte room l.initial.m l.part l.i l.m l.s
-
-abbrev pub decreases-loop-i : goal.decreases-loop-i
-decreases-loop-i l = length l.part - l.i

@@ -1,11 +1,11 @@
 -- `EucKr::stray` meets its contract.
+use Rattle.std.specs.Prelude.{None}
 use mathlib.Core.Path.{◌≡◌, sym, ap, ◌∙◌}
 use mathlib.Core.Bool.{true}
 use mathlib.Core.Logic.{inl, inr}
 use native.Mathlib.Omega.{arith}
 use Rattle.laws.specs.Sizes.{thru64}
 use Rattle.weights.specs.Weights.{term}
-use Rattle.pairs.specs.declared.Held.TheVariants.{Nothing}
 use Rattle.euckr.specs.Scoring.{is_extension, scored, after_byte}
 use Rattle.euckr.specs.Ways.{extends_ascii, extends_lone, extends_not, stray_extends, stray_alone, stray_none}
 use Rattle.euckr.specs.declared.LatinKorean.TheVariants.{Other}
@@ -27,7 +27,7 @@ returns-then-is_lone c =
 pub returns-then-is_lone-2 : goal.returns-then-is_lone-2
 returns-then-is_lone-2 c =
     let s = c in
-    let e = c.plain.ensures ∙ ap (scored Other 0 Nothing) (thru64 s.args.w.extension term s.requires.extension (omega arith)) in
+    let e = c.plain.ensures ∙ ap (scored Other 0 None) (thru64 s.args.w.extension term s.requires.extension (omega arith)) in
     c.after_byte-then-is_lone-2.ensures _ ∙ (ap (after_byte s.args.lead s.args.b) e ∙ stray_alone s.args.w s.args.self s.args.lead s.args.b s.args.size (extends_not s.args.self.prev_byte s.args.b (elim c.if-is_extension.branch [
       | then-is_extension+else-b-lt128+else-is_lone w ↦ inl (sym c.is_extension.ensures ∙ w.if-is_extension.true, w.if-b-lt128.false, sym w.is_lone.ensures ∙ w.if-is_lone.false)
       | else-is_extension w ↦ inr (sym c.is_extension.ensures ∙ w.if-is_extension.false)

@@ -1,36 +1,26 @@
 -- `Iso2022Jp::run` meets its contract.
-use mathlib.Core.Path.{sym, ◌∙◌}
-use mathlib.Core.Bool.{and-false}
-use borrow.Author.Tests.{lt-leb, ne_eqb}
-use Rattle.laws.specs.Answer.{if_unfit}
-use Rattle.entries.specs.Ready.{ready_b}
-use Rattle.iso2022jp.specs.Iso2022Jp.{Ready, ran_of}
-use Rattle.iso2022jp.specs.Iso2022JpLaws.{sound_true, ran_ready}
+use Rattle.std.proofs.Common.{◌≡◌, true, sym, ◌∙◌}
+use Rattle.laws.specs.Answer.{if_fit, if_unfit}
+use Rattle.entries.specs.Ready.{ready_b, ready_true}
+use Rattle.lengths.specs.Lengths.{jis_count}
+use Rattle.iso2022jp.specs.Iso2022Jp.{ran_of, sound_b}
+use Rattle.iso2022jp.specs.Iso2022JpLaws.{sound_true}
 use Rattle.iso2022jp.proofs.Iso2022Jp.run.Goals as goal
-use Rattle.iso2022jp.proofs.Iso2022Jp.run.Goals.{Then-part-le-MOST}
+use Rattle.iso2022jp.proofs.Iso2022Jp.run.Goals.{Then-is_ready}
 
--- past the three tests all is fit
-ready : (c : Then-part-le-MOST) → (let a = c.args in Ready a.index.now a.self a.part.now)
-ready c =
-    let t = c in
-    record { sound = sound_true t.args.self (sym t.is_sound.ensures ∙ t.if-is_sound.true); sized = c.if-index-eq-JIS.true; short = c.if-part-le-MOST.true }
+-- what the test says of the record
+passed : (c : Then-is_ready) → ready_b (sound_b c.args.self) jis_count c.args.index.now c.args.part.now ≡ true
+passed c = rw c.is_sound.ensures at (sym c.is_ready.ensures ∙ c.if-is_ready.true)
 
 pub run_fit-requires : goal.run_fit-requires
 run_fit-requires c =
-    let r = ready (goal.at.run_fit-requires c).Then-part-le-MOST in
+    let r = ready_true _ _ _ _ (sound_true c.args.self) (passed (goal.at.run_fit-requires c).Then-is_ready) in
     (r.sound, r.sized)
 
-pub returns-then-part-le-MOST : goal.returns-then-part-le-MOST
-returns-then-part-le-MOST c = c.run_fit.ensures ∙ sym (ran_ready _ _ _ (ready (goal.at.returns-then-part-le-MOST c).Then-part-le-MOST))
+pub returns-then-is_ready : goal.returns-then-is_ready
+unfolding ran_of
+returns-then-is_ready c = c.run_fit.ensures ∙ sym (if_fit _ _ (passed (goal.at.returns-then-is_ready c).Then-is_ready))
 
-pub returns-else-part-le-MOST : goal.returns-else-part-le-MOST
-unfolding ran_of ready_b
-returns-else-part-le-MOST c = sym (if_unfit _ _ _ _ _ _ (rw (lt-leb _ _ c.if-part-le-MOST.false, and-false, and-false)))
-
-pub returns-else-index-eq-JIS : goal.returns-else-index-eq-JIS
-unfolding ran_of ready_b
-returns-else-index-eq-JIS c = sym (if_unfit _ _ _ _ _ _ (rw (ne_eqb _ _ c.if-index-eq-JIS.false, and-false)))
-
-pub returns-else-is_sound : goal.returns-else-is_sound
-unfolding ran_of ready_b
-returns-else-is_sound c = sym (if_unfit _ _ _ _ _ _ (rw (sym c.is_sound.ensures ∙ c.if-is_sound.false)))
+pub returns : goal.returns
+unfolding ran_of
+returns c = sym (if_unfit _ _ (rw c.is_sound.ensures at (sym c.is_ready.ensures ∙ c.if-is_ready.false)))

@@ -1,13 +1,8 @@
--- `Iso2022Jp::run_fit` meets its contract: the loop of `Going`, whose measure is what is left of the part.
-use Prim.Native.Nat.{◌-◌}
-use lib.IntN.{pos}
-use lib.ListN.{length}
+-- `Iso2022Jp::run_fit` meets its contract: the loop of `Going`.
+use Rattle.std.specs.Prelude.{pos}
 use Rattle.laws.specs.Going.{Going}
 use Rattle.iso2022jp.specs.Iso2022Jp.{Sound, step_of}
 use Rattle.iso2022jp.proofs.Iso2022Jp.run_fit.Given as goal
 
 abbrev pub invariant-loop-i : goal.invariant-loop-i
 invariant-loop-i l = Going (step_of l.index) (λ n. Sound) 0 0 l.initial.m l.part l.i l.m (pos 0)
-
-abbrev pub decreases-loop-i : goal.decreases-loop-i
-decreases-loop-i l = length l.part - l.i

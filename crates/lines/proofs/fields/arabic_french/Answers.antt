@@ -5,4 +5,4 @@ use Rattle.lines.proofs.fields.arabic_french.Goals as goal
 
 pub returns : goal.returns
 unfolding arabic_french_text
-returns c = follow _ _ _ (follow _ _ _ (follow _ _ _ c.class-a.ensures c.word-b.ensures) c.case-c.ensures) c.words.ensures
+returns c = follow _ _ _ (follow _ _ _ (follow _ _ _ c.class.ensures c.word.ensures) c.case.ensures) c.words.ensures

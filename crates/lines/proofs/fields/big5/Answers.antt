@@ -5,4 +5,4 @@ use Rattle.lines.proofs.fields.big5.Goals as goal
 
 pub returns : goal.returns
 unfolding big5_text
-returns c = follow _ _ _ (follow _ _ _ (follow _ _ _ (follow _ _ _ c.hex-a.ensures c.hex-b.ensures) c.word-c.ensures) c.cj-d.ensures) c.held.ensures
+returns c = follow _ _ _ (follow _ _ _ (follow _ _ _ (follow _ _ _ c.hex.ensures c.hex-2.ensures) c.word.ensures) c.cj.ensures) c.held.ensures

@@ -5,4 +5,4 @@ use Rattle.lines.proofs.fields.caseless.Goals as goal
 
 pub returns : goal.returns
 unfolding caseless_text
-returns c = follow _ _ _ c.class-a.ensures c.words.ensures
+returns c = follow _ _ _ c.class.ensures c.words.ensures

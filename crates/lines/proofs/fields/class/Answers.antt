@@ -5,4 +5,4 @@ use Rattle.lines.proofs.fields.class.Goals as goal
 
 pub returns : goal.returns
 unfolding class_text
-returns c = follow _ _ _ (rw c.wide.ensures at c.count-a.ensures) c.flag.ensures
+returns c = follow _ _ _ (rw c.from.ensures at c.count.ensures) c.flag.ensures

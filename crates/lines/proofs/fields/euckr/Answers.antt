@@ -5,4 +5,4 @@ use Rattle.lines.proofs.fields.euckr.Goals as goal
 
 pub returns : goal.returns
 unfolding euckr_text
-returns c = follow _ _ _ (follow _ _ _ (follow _ _ _ (follow _ _ _ (follow _ _ _ (follow _ _ _ c.hex-a.ensures c.hex-b.ensures) c.flag-c.ensures) c.word-d.ensures) c.korean-e.ensures) c.count-f.ensures) c.held.ensures
+returns c = follow _ _ _ (follow _ _ _ (follow _ _ _ (follow _ _ _ (follow _ _ _ (follow _ _ _ c.hex.ensures c.hex-2.ensures) c.flag.ensures) c.word.ensures) c.korean.ensures) c.count.ensures) c.held.ensures

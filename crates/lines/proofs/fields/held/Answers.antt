@@ -6,10 +6,10 @@ use Rattle.laws.specs.Sizes.{thru}
 use Rattle.lines.specs.Fields.{held_text}
 use Rattle.lines.proofs.fields.held.Goals as goal
 
-pub returns-in-Nothing : goal.returns-in-Nothing
+pub returns-in-None : goal.returns-in-None
 unfolding held_text
-returns-in-Nothing c = rw c.in-Nothing.is (follow _ _ _ c.word-after.ensures c.word.ensures)
+returns-in-None c = rw c.in-None.is (follow _ _ _ c.word.ensures c.word-in-None.ensures)
 
-pub returns-in-Score : goal.returns-in-Score
+pub returns-in-Some : goal.returns-in-Some
 unfolding held_text
-returns-in-Score c = rw c.in-Score.is (follow _ _ _ c.word-after.ensures (rw (thru w64 c.in-Score.z (record { sfits = search rules })) at c.signed.ensures))
+returns-in-Some c = rw c.in-Some.is (follow _ _ _ c.word.ensures (rw (thru w64 c.in-Some.z (record { sfits = search rules })) at c.signed.ensures))

@@ -3,4 +3,4 @@ use Rattle.scribe.specs.PageLaws.{follow}
 use Rattle.lines.proofs.fields.hex.Goals as goal
 
 pub returns : goal.returns
-returns c = follow _ _ _ c.word-after.ensures c.hex.ensures
+returns c = follow _ _ _ c.word.ensures c.hex.ensures

@@ -5,4 +5,4 @@ use Rattle.lines.proofs.fields.iso2022jp.Goals as goal
 
 pub returns : goal.returns
 unfolding iso2022jp_text
-returns c = follow _ _ _ (follow _ _ _ (follow _ _ _ (follow _ _ _ (follow _ _ _ c.word-a.ensures c.decoder_state-b.ensures) c.word-c.ensures) c.output_state-d.ensures) c.hex-e.ensures) c.flag.ensures
+returns c = follow _ _ _ (follow _ _ _ (follow _ _ _ (follow _ _ _ (follow _ _ _ c.word.ensures c.decoder_state.ensures) c.word-2.ensures) c.output_state.ensures) c.hex.ensures) c.flag.ensures

@@ -5,4 +5,4 @@ use Rattle.lines.proofs.fields.logical.Goals as goal
 
 pub returns : goal.returns
 unfolding logical_text
-returns c = follow _ _ _ (follow _ _ _ c.class-a.ensures c.count-b.ensures) c.words.ensures
+returns c = follow _ _ _ (follow _ _ _ c.class.ensures c.count.ensures) c.words.ensures

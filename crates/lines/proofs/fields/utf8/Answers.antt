@@ -5,4 +5,4 @@ use Rattle.lines.proofs.fields.utf8.Goals as goal
 
 pub returns : goal.returns
 unfolding utf8_text
-returns c = follow _ _ _ (follow _ _ _ (rw c.wide.ensures at c.count-need.ensures) c.hex-lo.ensures) c.hex.ensures
+returns c = follow _ _ _ (follow _ _ _ (rw c.from.ensures at c.count.ensures) c.hex.ensures) c.hex-2.ensures

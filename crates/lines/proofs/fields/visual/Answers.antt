@@ -5,4 +5,4 @@ use Rattle.lines.proofs.fields.visual.Goals as goal
 
 pub returns : goal.returns
 unfolding visual_text
-returns c = follow _ _ _ (follow _ _ _ (follow _ _ _ c.class-a.ensures c.flag-b.ensures) c.count-c.ensures) c.words.ensures
+returns c = follow _ _ _ (follow _ _ _ (follow _ _ _ c.class.ensures c.flag.ensures) c.count.ensures) c.words.ensures

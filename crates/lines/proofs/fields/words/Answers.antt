@@ -5,4 +5,4 @@ use Rattle.lines.proofs.fields.words.Goals as goal
 
 pub returns : goal.returns
 unfolding words_text
-returns c = follow _ _ _ c.count-a.ensures c.count.ensures
+returns c = follow _ _ _ c.count.ensures c.count-2.ensures

@@ -5,4 +5,4 @@ use Rattle.lines.proofs.show.bytes.Goals as goal
 
 pub returns : goal.returns
 unfolding bytes_text
-returns c = follow _ _ _ c.count-a.ensures c.count.ensures
+returns c = follow _ _ _ c.count.ensures c.count-2.ensures

@@ -5,4 +5,4 @@ use Rattle.lines.proofs.show.dropped.Goals as goal
 
 pub returns : goal.returns
 unfolding dropped_text
-returns c = follow _ _ _ (follow _ _ _ (follow _ _ _ c.word-a.ensures c.reason-b.ensures) c.count-c.ensures) c.end_line.ensures
+returns c = follow _ _ _ (follow _ _ _ (follow _ _ _ c.word.ensures c.reason.ensures) c.count.ensures) c.end_line.ensures

@@ -5,4 +5,4 @@ use Rattle.lines.proofs.show.front.Goals as goal
 
 pub returns : goal.returns
 unfolding front_text
-returns c = follow _ _ _ (follow _ _ _ (follow _ _ _ (follow _ _ _ (follow _ _ _ (follow _ _ _ c.word-a.ensures c.saved-b.ensures) c.flag-c.ensures) c.count-d.ensures) c.flag-e.ensures) c.bytes-f.ensures) c.end_line.ensures
+returns c = follow _ _ _ (follow _ _ _ (follow _ _ _ (follow _ _ _ (follow _ _ _ (follow _ _ _ c.word.ensures c.saved.ensures) c.flag.ensures) c.count.ensures) c.flag-2.ensures) c.bytes.ensures) c.end_line.ensures

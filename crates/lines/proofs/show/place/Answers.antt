@@ -5,4 +5,4 @@ use Rattle.lines.proofs.show.place.Goals as goal
 
 pub returns : goal.returns
 unfolding place_text
-returns c = follow _ _ _ (rw c.place_number.ensures at c.place-a.ensures) c.scored.ensures
+returns c = follow _ _ _ (rw c.place_number.ensures at c.place.ensures) c.scored.ensures

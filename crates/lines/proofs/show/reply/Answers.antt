@@ -5,4 +5,4 @@ use Rattle.lines.proofs.show.reply.Goals as goal
 
 pub returns : goal.returns
 unfolding reply_text
-returns c = follow _ _ _ (follow _ _ _ (rw (c.wide.ensures, c.number.ensures) at c.count-a.ensures) (rw c.flag.ensures at c.flag-b.ensures)) c.end_line.ensures
+returns c = follow _ _ _ (follow _ _ _ (rw (c.from.ensures, c.number.ensures) at c.count.ensures) (rw c.flag.ensures at c.flag-2.ensures)) c.end_line.ensures

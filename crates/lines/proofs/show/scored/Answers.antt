@@ -6,11 +6,11 @@ use Rattle.laws.specs.Sizes.{thru}
 use Rattle.lines.specs.Show.{scored_text}
 use Rattle.lines.proofs.show.scored.Goals as goal
 
-pub returns-in-None : goal.returns-in-None
+pub returns-in-Err : goal.returns-in-Err
 unfolding scored_text
-returns-in-None c = rw c.in-None.is c.dropped.ensures
+returns-in-Err c = rw c.in-Err.is c.dropped.ensures
 
-pub returns-in-Live : goal.returns-in-Live
+pub returns-in-Ok : goal.returns-in-Ok
 unfolding scored_text
-returns-in-Live c =
-    rw c.in-Live.is (follow _ _ _ (follow _ _ _ (follow _ _ _ c.word-a.ensures (rw (thru w64 c.in-Live.n (record { sfits = search rules })) at c.signed-b.ensures)) c.machine_fields-c.ensures) c.end_line.ensures)
+returns-in-Ok c =
+    rw c.in-Ok.is (follow _ _ _ (follow _ _ _ (follow _ _ _ c.word.ensures (rw (thru w64 c.in-Ok.n (record { sfits = search rules })) at c.signed.ensures)) c.machine_fields.ensures) c.end_line.ensures)

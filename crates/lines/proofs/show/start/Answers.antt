@@ -14,5 +14,5 @@ unfolding start_text
 returns-in-NoSuchPlace c =
     let told = c.in-NoSuchPlace.is in
     let number = c.number.ensures in
-    let wide = c.wide.ensures in
-    rw told (follow _ _ _ (rw (wide, number, told) at c.count-a.ensures) c.end_line.ensures)
+    let wide = c.from.ensures in
+    rw told (follow _ _ _ (rw (wide, number, told) at c.count.ensures) c.end_line.ensures)

@@ -5,4 +5,4 @@ use Rattle.lines.proofs.show.state.Goals as goal
 
 pub returns : goal.returns
 unfolding state_text
-returns c = follow _ _ _ (follow _ _ _ c.front-a.ensures c.places-b.ensures) (rw c.of.ensures at c.leader_line.ensures)
+returns c = follow _ _ _ (follow _ _ _ c.front.ensures c.places.ensures) (rw c.of.ensures at c.leader_line.ensures)

@@ -1,21 +1,18 @@
 -- `feed_each` meets its contract.
 use Rattle.std.proofs.Common.{List, [], ◌∷◌, ◌≡◌, rules}
-use Rattle.tables.specs.Tables.{Tables, tables}
+use Rattle.tables.specs.Lists.{lists}
 use Rattle.places.specs.Fed.{fed_each, AllKnown}
 use Rattle.places.specs.FedLaws.{fed_listed}
 use Rattle.places.specs.Slate.{nowhere}
 use Rattle.places.specs.declared.place.Place.{Place}
 use Rattle.places.proofs.slate.feed_each.Goals as goal
 
-module _ (c : goal.After-feed_shift_jis) where
-  abbrev lent : Tables
-  lent = tables c.args.classes4.now c.args.marks4.now c.args.pairs4.now c.args.classes5.now c.args.marks5.now c.args.pairs5.now c.args.classes6.now c.args.marks6.now c.args.pairs6.now c.args.classes7.now c.args.marks7.now c.args.pairs7.now c.args.big5.now c.args.euckr.now c.args.jis.now c.args.extras.now c.args.weights.now
-
+module _ (c : goal.After-feed-9) where
   abbrev fed : List Place
-  fed = c.feed_utf8.result ∷ c.feed_iso2022jp.result ∷ c.feed_euckr.result ∷ c.feed_big5.result ∷ c.feed_caseless.result ∷ c.feed_logical.result ∷ c.feed_visual.result ∷ c.feed_arabic_french.result ∷ c.feed_shift_jis.result ∷ []
+  fed = c.feed.result ∷ c.feed-2.result ∷ c.feed-3.result ∷ c.feed-4.result ∷ c.feed-5.result ∷ c.feed-6.result ∷ c.feed-7.result ∷ c.feed-8.result ∷ c.feed-9.result ∷ []
 
-  all : (fed ≡ fed_each lent c.args.body c.args.part.now c.args.places) × AllKnown lent c.args.part.now c.args.places
-  all = fed_listed lent c.args.body c.args.places nowhere (search rules) c.args.part.now fed ((c.feed_utf8.ensures.value, c.feed_utf8.ensures.known_fed), ((c.feed_iso2022jp.ensures.value, c.feed_iso2022jp.ensures.known_fed), ((c.feed_euckr.ensures.value, c.feed_euckr.ensures.known_fed), ((c.feed_big5.ensures.value, c.feed_big5.ensures.known_fed), ((c.feed_caseless.ensures.value, c.feed_caseless.ensures.known_fed), ((c.feed_logical.ensures.value, c.feed_logical.ensures.known_fed), ((c.feed_visual.ensures.value, c.feed_visual.ensures.known_fed), ((c.feed_arabic_french.ensures.value, c.feed_arabic_french.ensures.known_fed), ((c.feed_shift_jis.ensures.value, c.feed_shift_jis.ensures.known_fed), tt)))))))))
+  all : (fed ≡ fed_each (lists c.args.tables.now) c.args.body c.args.part.now c.args.places) × AllKnown (lists c.args.tables.now) c.args.part.now c.args.places
+  all = fed_listed (lists c.args.tables.now) c.args.body c.args.places nowhere (search rules) c.args.part.now fed ((c.feed.ensures.value, c.feed.ensures.known_fed), ((c.feed-2.ensures.value, c.feed-2.ensures.known_fed), ((c.feed-3.ensures.value, c.feed-3.ensures.known_fed), ((c.feed-4.ensures.value, c.feed-4.ensures.known_fed), ((c.feed-5.ensures.value, c.feed-5.ensures.known_fed), ((c.feed-6.ensures.value, c.feed-6.ensures.known_fed), ((c.feed-7.ensures.value, c.feed-7.ensures.known_fed), ((c.feed-8.ensures.value, c.feed-8.ensures.known_fed), ((c.feed-9.ensures.value, c.feed-9.ensures.known_fed), tt)))))))))
 
 pub returns-clause-value : goal.returns-clause-value
 returns-clause-value c = (all c).0

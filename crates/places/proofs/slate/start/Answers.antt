@@ -4,4 +4,4 @@ use Rattle.places.proofs.slate.start.Goals as goal
 
 pub returns : goal.returns
 unfolding start_of
-returns c = rw (c.begun-9.ensures, c.fresh-9.ensures, c.begun-8.ensures, c.fresh-8.ensures, c.begun-7.ensures, c.fresh-7.ensures, c.begun-6.ensures, c.fresh-6.ensures, c.begun-5.ensures, c.fresh-5.ensures, c.begun-4.ensures, c.fresh-4.ensures, c.begun-3.ensures, c.fresh-3.ensures, c.begun-2.ensures, c.fresh-2.ensures, c.begun.ensures, c.fresh.ensures)
+returns c = rw (c.begun-9.ensures, c.begun-8.ensures, c.begun-7.ensures, c.begun-6.ensures, c.begun-5.ensures, c.begun-4.ensures, c.begun-3.ensures, c.begun-2.ensures, c.begun.ensures)

@@ -1,13 +1,14 @@
 -- `turn` meets its contract: a command that was read is among the bytes at hand.
 use Rattle.std.proofs.Common.{◌+◌, ◌≤◌, arith}
 use Rattle.reader.specs.CommandLaws.{room}
-use Rattle.tables.specs.Tables.{Tables, tables}
+use Rattle.tables.specs.Lists.{lists}
+use Rattle.tables.specs.Tables.{Tables}
 use Rattle.play.specs.TurnLaws.{within_hand, after_feed}
 use Rattle.play.proofs.turns.turn.Goals as goal
 use Rattle.play.proofs.turns.turn.Goals.{Start}
 
 abbrev lent : Start → Tables
-lent s = tables s.args.classes4.now s.args.marks4.now s.args.pairs4.now s.args.classes5.now s.args.marks5.now s.args.pairs5.now s.args.classes6.now s.args.marks6.now s.args.pairs6.now s.args.classes7.now s.args.marks7.now s.args.pairs7.now s.args.big5.now s.args.euckr.now s.args.jis.now s.args.extras.now s.args.weights.now
+lent s = lists s.args.tables.now
 
 pub started-requires : goal.started-requires
 started-requires c = within_hand c.args.window.now c.args.t.span 3 c.requires (room _ _ c.in-Start.ensures)

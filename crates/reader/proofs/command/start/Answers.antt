@@ -9,4 +9,4 @@ returns-then-bytes-lt3 c = simp (lt-ltb _ _ c.if-bytes-lt3.true)
 
 pub returns : goal.returns
 unfolding start_read
-returns c = simp (le-ltb _ _ c.if-bytes-lt3.false, c.two.ensures)
+returns c = simp (le-ltb _ _ c.if-bytes-lt3.false, c.at.ensures)

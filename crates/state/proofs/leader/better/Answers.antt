@@ -12,22 +12,22 @@ pub returns-in_default : goal.returns-in_default
 unfolding better_of
 returns-in_default c = rw c.in_default.is
 
+pub returns-in_default-best : goal.returns-in_default-best
+unfolding better_of
+returns-in_default-best c = rw (c.in-Ok.is, c.in_default-best.is, thru w64 c.in-Ok.n (search rules))
+
 pub returns-then-most-n : goal.returns-then-most-n
 unfolding better_of
 returns-then-most-n c =
-    let n = c.in-Live.n in
-    let m = c.in-Score.most in
+    let n = c.in-Ok.n in
+    let m = c.in-Some.most in
     let e : lt_z m n ≡ true = rw (thru w64 m (search rules), thru w64 n (search rules)) at c.if-most-n.true in
-    rw (c.in-Live.is, c.in-Score.is, thru w64 n (search rules), e)
+    rw (c.in-Ok.is, c.in-Some.is, thru w64 n (search rules), e)
 
-pub returns-in-None : goal.returns-in-None
+pub returns : goal.returns
 unfolding better_of
-returns-in-None c = rw (c.in-Live.is, c.in-None.is, thru w64 c.in-Live.n (search rules))
-
-pub returns-else-most-n : goal.returns-else-most-n
-unfolding better_of
-returns-else-most-n c =
-    let n = c.in-Live.n in
-    let m = c.in-Score.most in
+returns c =
+    let n = c.in-Ok.n in
+    let m = c.in-Some.most in
     let e : lt_z m n ≡ false = rw (thru w64 m (search rules), thru w64 n (search rules)) at c.if-most-n.false in
-    rw (c.in-Live.is, c.in-Score.is, e)
+    rw (c.in-Ok.is, c.in-Some.is, e)

@@ -1,4 +1,4 @@
--- `greatest` meets its contract: the first places were looked at. The measure is how many are left.
+-- `greatest` meets its contract: the first places were looked at.
 use native.Mathlib.Omega.{arith}
 use Rattle.state.specs.LeaderLaws.{looked_next, looked_best}
 use Rattle.state.proofs.leader.greatest.Goals as goal

@@ -10,12 +10,12 @@ returns-in-None c =
     let s = c.args.state in
     ap (leader_as s.places) (sym c.in-None.is) ∙ leader_is s c.greatest.result (sym c.is_triggered.ensures ∙ c.if-is_triggered.true) c.greatest.ensures
 
-pub returns-in-Score : goal.returns-in-Score
-returns-in-Score c =
+pub returns-in-Some : goal.returns-in-Some
+returns-in-Some c =
     let s = c.args.state in
     let b = c.greatest in
     ap Place c.named.ensures
-    ∙ (ap (leader_as s.places) (sym c.in-Score.is)
+    ∙ (ap (leader_as s.places) (sym c.in-Some.is)
     ∙ leader_is s b.result (sym c.is_triggered.ensures ∙ c.if-is_triggered.true) b.ensures)
 
 pub returns : goal.returns

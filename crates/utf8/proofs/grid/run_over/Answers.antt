@@ -1,9 +1,6 @@
--- `grid::run_over` meets its contract. In both loops the state is the one after the bytes passed, all of which were taken; the measure
--- is what is left of the part.
-use mathlib.Core.Path.{ap, ◌∙◌}
-use Prim.Native.Nat.{◌+◌}
-use native.Mathlib.Omega.{arith}
-use Rattle.utf8.specs.declared.Ran.TheVariants.{Live}
+-- `grid::run_over` meets its contract. In both loops the state is the one after the bytes passed, all of which were taken.
+use Rattle.std.proofs.Common.{ap, ◌∙◌, ◌+◌, arith}
+use Rattle.std.specs.Prelude.{Ok}
 use Rattle.utf8.specs.GridLaws.{on_start, on_block, on_byte, on_bad, on_done}
 use Rattle.utf8.proofs.grid.run_over.Goals as goal
 
@@ -18,14 +15,10 @@ loop-at-preserved c =
     on_block l.loop-at.invariant (at + 16) _ (omega arith) (omega arith) a.0 c.if-past-eq-BAD.false a.1
 
 pub returns-then-past-eq-BAD-2 : goal.returns-then-past-eq-BAD-2
-returns-then-past-eq-BAD-2 c =
-    let t = c in
-    on_bad t.loop-at-2.invariant t.loop-at-2-test.true _ c.next-past.ensures c.if-past-eq-BAD-2.true
+returns-then-past-eq-BAD-2 c = on_bad c.loop-i.invariant c.loop-i-test.true _ c.next-past.ensures c.if-past-eq-BAD-2.true
 
-pub loop-at-2-preserved : goal.loop-at-2-preserved
-loop-at-2-preserved c =
-    let t = c in
-    on_byte t.loop-at-2.invariant t.loop-at-2-test.true _ c.next-past.ensures c.if-past-eq-BAD-2.false
+pub loop-i-preserved : goal.loop-i-preserved
+loop-i-preserved c = on_byte c.loop-i.invariant c.loop-i-test.true _ c.next-past.ensures c.if-past-eq-BAD-2.false
 
 pub returns : goal.returns
-returns c = ap Live c.of_state.ensures ∙ on_done c.loop-at-2.invariant (omega arith)
+returns c = ap Ok c.of_state.ensures ∙ on_done c.loop-i.invariant (omega arith)

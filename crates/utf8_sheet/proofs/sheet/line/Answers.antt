@@ -6,4 +6,4 @@ use Rattle.utf8_sheet.proofs.sheet.line.Goals as goal
 
 pub returns : goal.returns
 unfolding line_of
-returns c = follow _ _ _ (follow _ _ _ (follow _ _ _ c.range-a.ensures (c.byte-b.ensures ∙ onto_one _ _)) (rw c.wide.ensures at c.decimal-c.ensures)) (c.byte.ensures ∙ onto_one _ _)
+returns c = follow _ _ _ (follow _ _ _ (follow _ _ _ c.range.ensures (c.byte.ensures ∙ onto_one _ _)) (rw c.from.ensures at c.decimal.ensures)) (c.byte-2.ensures ∙ onto_one _ _)

@@ -1,24 +1,18 @@
 -- `lines` meets its contract: what is left, written from here on, gives what the whole row gives from the start.
 use mathlib.Core.Path.{refl, sym, ◌∙◌}
 use native.Mathlib.Omega.{arith}
-use Rattle.scribe.specs.Page.{page}
 use Rattle.utf8_sheet.specs.LoopLaws.{lines_turn, lines_done}
 use Rattle.utf8_sheet.specs.Sheet.{runs_of}
 use Rattle.utf8_sheet.proofs.sheet.lines.Goals as goal
 
 pub loop-from-init : goal.loop-from-init
 unfolding runs_of
-loop-from-init c = (omega arith, (refl, refl))
+loop-from-init c = (omega arith, refl)
 
 pub loop-from-preserved : goal.loop-from-preserved
 loop-from-preserved c =
-    let l = c.loop-from in (
-      c.run_end-past.ensures.within,
-      (
-        c.line-to.auto.out ∙ l.invariant.1.0,
-        lines_turn (page l.out l.to) _ l.from _ c.run_end-past.ensures c.line-to.ensures ∙ l.invariant.1.1,
-      ),
-    )
+    let l = c.loop-from in
+    (c.run_end-past.ensures.within, lines_turn _ _ l.from _ c.run_end-past.ensures c.line.ensures ∙ l.invariant.1)
 
 pub returns : goal.returns
-returns c = let l = c.loop-from in sym (lines_done (page l.out l.to) _ l.from c.loop-from-test.false) ∙ l.invariant.1.1
+returns c = let l = c.loop-from in sym (lines_done _ _ l.from c.loop-from-test.false) ∙ l.invariant.1

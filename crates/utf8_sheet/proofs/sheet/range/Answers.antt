@@ -6,8 +6,8 @@ use Rattle.utf8_sheet.proofs.sheet.range.Goals as goal
 
 pub returns-then-first-last : goal.returns-then-first-last
 unfolding range_text
-returns-then-first-last c = rw (eq-eqb _ _ c.if-first-last.true) c.hex-a.ensures
+returns-then-first-last c = rw (ne_eqb _ _ c.if-first-last.true) (follow _ _ _ (follow _ _ _ c.hex.ensures c.word.ensures) c.hex-then-first-last.ensures)
 
-pub returns : goal.returns
+pub returns-else-first-last : goal.returns-else-first-last
 unfolding range_text
-returns c = rw (ne_eqb _ _ c.if-first-last.false) (follow _ _ _ (follow _ _ _ c.hex-a.ensures c.word-b.ensures) c.hex.ensures)
+returns-else-first-last c = rw (eq-eqb _ _ c.if-first-last.false) c.hex.ensures

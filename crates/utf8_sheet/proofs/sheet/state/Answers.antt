@@ -6,4 +6,4 @@ use Rattle.utf8_sheet.proofs.sheet.state.Goals as goal
 
 pub returns : goal.returns
 unfolding state_text
-returns c = follow _ _ _ (follow _ _ _ (follow _ _ _ c.word-a.ensures c.decimal-b.ensures) (c.byte-c.ensures ∙ onto_one _ _)) c.lines.ensures
+returns c = follow _ _ _ (follow _ _ _ (follow _ _ _ c.word.ensures c.decimal.ensures) (c.byte.ensures ∙ onto_one _ _)) c.lines.ensures

@@ -1,7 +1,0 @@
--- `Machine::run_caseless` meets its contract.
-use Rattle.kinds.specs.Kinds.{ran_of}
-use Rattle.kinds.proofs.machine.Machine.run_caseless.Goals as goal
-
-pub returns-clause-value : goal.returns-clause-value
-unfolding ran_of
-returns-clause-value c = rw (c.of_caseless.ensures, c.run.ensures.value, c.in-Caseless.is)

@@ -1,9 +1,0 @@
--- `swept_edges` is safe and ends: the measure is how many are left.
-use Rattle.std.proofs.Common.{◌-◌}
-use Rattle.sweep_utf8.proofs.swept_edges.Given as goal
-
-abbrev pub invariant-loop-n : goal.invariant-loop-n
-invariant-loop-n l = Unit {0}
-
-abbrev pub decreases-loop-n : goal.decreases-loop-n
-decreases-loop-n l = 2560 - l.n
