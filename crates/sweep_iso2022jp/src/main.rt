@@ -18,12 +18,12 @@ use tally::{Counts, Verdict};
 fn machine(part: &[u8], index: &[u32]) -> Verdict {
     match Iso2022Jp::fresh().run(part, index) {
         Ok(m) => match m.close() {
-            Ok(_) => Verdict::Whole,
+            Ok(_) => Verdict::of(tally::WHOLE),
             Err(Stop::Dropped(reason, at)) => Verdict::dropped(reason, at),
-            Err(Stop::Unfit) => Verdict::Unfit(0),
+            Err(Stop::Unfit) => Verdict::of(tally::UNFIT),
         },
         Err(Stop::Dropped(reason, at)) => Verdict::dropped(reason, at.wrapping_add(1)),
-        Err(Stop::Unfit) => Verdict::Unfit(0),
+        Err(Stop::Unfit) => Verdict::of(tally::UNFIT),
     }
 }
 
@@ -31,7 +31,7 @@ fn machine(part: &[u8], index: &[u32]) -> Verdict {
 fn broken_escape(after: usize, x: u8) -> Verdict
     requires { after ≤ 3 }
 {
-    Verdict::Broken(match x {
+    Verdict::broken(match x {
         0x24 | 0x28 => after + 3,
         _ => after + 2,
     })
@@ -40,7 +40,7 @@ fn broken_escape(after: usize, x: u8) -> Verdict
 // The five escapes.
 fn second_escape(x: u8, y: u8) -> Verdict {
     match (x, y) {
-        (0x24, 0x40 | 0x42) | (0x28, 0x42 | 0x49 | 0x4A) => Verdict::Whole,
+        (0x24, 0x40 | 0x42) | (0x28, 0x42 | 0x49 | 0x4A) => Verdict::of(tally::WHOLE),
         _ => broken_escape(0, x),
     }
 }
@@ -48,13 +48,13 @@ fn second_escape(x: u8, y: u8) -> Verdict {
 // A byte after the escape ESC ( or ESC $ with this last byte.
 fn second_after(last: u8, b: u8) -> Verdict {
     match (last, b) {
-        (_, 0x1B) => Verdict::Cut(0),
-        (0x49, 0x21..=0x5F) => Verdict::Whole,
-        (0x49, _) => Verdict::Bad(4),
-        (0x40, 0x21..=0x7E) => Verdict::Cut(0),
-        (0x40, _) => Verdict::Bad(4),
-        (_, 14 | 15 | 0x80..) => Verdict::Bad(4),
-        _ => Verdict::Whole,
+        (_, 0x1B) => Verdict::of(tally::CUT),
+        (0x49, 0x21..=0x5F) => Verdict::of(tally::WHOLE),
+        (0x49, _) => Verdict::bad(4),
+        (0x40, 0x21..=0x7E) => Verdict::of(tally::CUT),
+        (0x40, _) => Verdict::bad(4),
+        (_, 14 | 15 | 0x80..) => Verdict::bad(4),
+        _ => Verdict::of(tally::WHOLE),
     }
 }
 
@@ -69,17 +69,17 @@ fn pair_place(a: u8, b: u8) -> Option<usize> {
 fn second_pair(a: u8, b: u8, index: &[u32]) -> Verdict {
     if a == 0x1B {
         return match b {
-            0x24 | 0x28 => Verdict::Cut(0),
-            _ => Verdict::Broken(5),
+            0x24 | 0x28 => Verdict::of(tally::CUT),
+            _ => Verdict::broken(5),
         };
     }
     let entry = pair_place(a, b)
         .filter(|at| *at < Iso2022Jp::FIRST)
         .and_then(|at| index.get(at));
     match (entry, a) {
-        (Some(1..), _) => Verdict::Whole,
-        (_, 33..=126) => Verdict::Bad(5),
-        _ => Verdict::Bad(4),
+        (Some(1..), _) => Verdict::of(tally::WHOLE),
+        (_, 33..=126) => Verdict::bad(5),
+        _ => Verdict::bad(4),
     }
 }
 

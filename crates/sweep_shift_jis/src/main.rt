@@ -26,7 +26,7 @@ const PAST: usize = 10716;
 fn stopped(stop: Stop, after: usize) -> Verdict {
     match stop {
         Stop::Dropped(reason, at) => Verdict::dropped(reason, after.wrapping_add(at)),
-        Stop::Unfit => Verdict::Unfit(0),
+        Stop::Unfit => Verdict::of(tally::UNFIT),
     }
 }
 
@@ -42,7 +42,7 @@ fn machine(parts: &[&[u8]], index: &[u32]) -> Verdict {
         after = after.wrapping_add(part.len());
     }
     match m.close() {
-        Ok(_) => Verdict::Whole,
+        Ok(_) => Verdict::of(tally::WHOLE),
         Err(stop) => stopped(stop, 0),
     }
 }
@@ -124,25 +124,25 @@ fn second(stream: &[u8], index: &[u32]) -> Verdict {
     let mut left = stream;
     while let [b, rest @ ..] = left {
         left = match (sort_of(*b), rest) {
-            (Sort::Never, _) => return Verdict::Bad(stream.len() - rest.len()),
+            (Sort::Never, _) => return Verdict::bad(stream.len() - rest.len()),
             (Sort::Alone, _) => rest,
-            (Sort::Lead, []) => return Verdict::Cut(0),
+            (Sort::Lead, []) => return Verdict::of(tally::CUT),
             (Sort::Lead, [trail, after @ ..]) => {
                 if !is_pair(*b, *trail, index) {
-                    return Verdict::Bad(stream.len() - after.len());
+                    return Verdict::bad(stream.len() - after.len());
                 }
                 after
             }
         };
     }
-    Verdict::Whole
+    Verdict::of(tally::WHOLE)
 }
 
 // A lead of private use and this byte: whole for every byte that has a cell.
 fn second_private(b: u8) -> Verdict {
     match first_cell(b).or(second_cell(b)) {
-        Some(_) => Verdict::Whole,
-        None => Verdict::Bad(2),
+        Some(_) => Verdict::of(tally::WHOLE),
+        None => Verdict::bad(2),
     }
 }
 
@@ -197,8 +197,8 @@ fn print_private(index: &mut [u32; JIS], entry: u32) {
     index[PRIVATE..PAST].fill(entry);
     tally::print_count(b"with ", u64::from(entry));
     tally::print_word(b" in private use,\n");
-    print_beside(index, 0x3042, Verdict::Whole);
-    print_beside(index, 0, Verdict::Bad(2));
+    print_beside(index, 0x3042, Verdict::of(tally::WHOLE));
+    print_beside(index, 0, Verdict::bad(2));
     print_pairs(index);
     swept(
         0xF000,

@@ -21,12 +21,12 @@ struct Part {
 fn machine(part: &[u8]) -> Verdict {
     match Utf8::fresh().run(part) {
         Ok(m) => match m.close() {
-            Ok(_) => Verdict::Whole,
+            Ok(_) => Verdict::of(tally::WHOLE),
             Err(Stop::Dropped(reason, at)) => Verdict::dropped(reason, at),
-            Err(Stop::Unfit) => Verdict::Unfit(0),
+            Err(Stop::Unfit) => Verdict::of(tally::UNFIT),
         },
         Err(Stop::Dropped(reason, at)) => Verdict::dropped(reason, at.wrapping_add(1)),
-        Err(Stop::Unfit) => Verdict::Unfit(0),
+        Err(Stop::Unfit) => Verdict::of(tally::UNFIT),
     }
 }
 
@@ -86,12 +86,12 @@ fn second(bytes: &[u8]) -> Verdict {
     for (i, b) in bytes.iter().enumerate() {
         match taken(part, *b).filter(|next| is_possible(*next)) {
             Some(next) => part = next,
-            None => return Verdict::Bad(i + 1),
+            None => return Verdict::bad(i + 1),
         }
     }
     match part.left {
-        0 => Verdict::Whole,
-        _ => Verdict::Cut(0),
+        0 => Verdict::of(tally::WHOLE),
+        _ => Verdict::of(tally::CUT),
     }
 }
 

@@ -1,50 +1,28 @@
 -- What is counted. Counts are of 64 bits.
-use Rattle.std.specs.Prelude.{ℕ, ◌+◌, ◌%◌, ◌^◌, Bool, true, false, cond, not, ◌==◌}
+use Rattle.std.specs.Prelude.{ℕ, ◌+◌, ◌%◌, ◌^◌, Bool, true, cond, not, ◌&&◌, ◌||◌, ◌==◌}
 use Rattle.laws.specs.declared.Reason.{Reason}
 use Rattle.laws.specs.declared.Reason.TheVariants.{Class255, BadByte, BadSecondByte, BrokenEscape, CutAtClose, NotInSlate}
 use Rattle.tally.specs.declared.Verdict.{Verdict}
-use Rattle.tally.specs.declared.Verdict.TheVariants.{Whole, Cut, Bad, Broken, Unfit}
 use Rattle.tally.specs.declared.Counts.{Counts}
 
--- ---- what comes of a byte string
+-- ---- what comes of a byte string, by numbers: 0 whole, 1 cut, 2 a bad byte, 3 a broken escape, 4 not fit
+abbrev pub verdict : ℕ → ℕ → Verdict
+verdict code at = record { code = code; at = at }
+
 -- a machine that dropped out
-abbrev pub dropped_of : Reason → ℕ → Verdict
-dropped_of BadByte at = Bad at
-dropped_of BrokenEscape at = Broken at
-dropped_of CutAtClose at = Cut at
-dropped_of Class255 at = Unfit at
-dropped_of BadSecondByte at = Unfit at
-dropped_of NotInSlate at = Unfit at
+unfoldable pub dropped_of : Reason → ℕ → Verdict
+dropped_of BadByte at = verdict 2 at
+dropped_of BrokenEscape at = verdict 3 at
+dropped_of CutAtClose at = verdict 1 at
+dropped_of Class255 at = verdict 4 at
+dropped_of BadSecondByte at = verdict 4 at
+dropped_of NotInSlate at = verdict 4 at
 
-abbrev pub is_whole : Verdict → Bool
-is_whole Whole = true
-is_whole (Cut at) = false
-is_whole (Bad at) = false
-is_whole (Broken at) = false
-is_whole (Unfit at) = false
+abbrev pub is_none : ℕ → Bool
+is_none code = code == 2 || code == 3
 
-abbrev pub is_cut : Verdict → Bool
-is_cut Whole = false
-is_cut (Cut at) = true
-is_cut (Bad at) = false
-is_cut (Broken at) = false
-is_cut (Unfit at) = false
-
-abbrev pub is_none : Verdict → Bool
-is_none Whole = false
-is_none (Cut at) = false
-is_none (Bad at) = true
-is_none (Broken at) = true
-is_none (Unfit at) = false
-
--- whether two are the same, in the place too
 abbrev pub same_b : Verdict → Verdict → Bool
-same_b Whole Whole = true
-same_b (Cut at) (Cut by) = at == by
-same_b (Bad at) (Bad by) = at == by
-same_b (Broken at) (Broken by) = at == by
-same_b (Unfit at) (Unfit by) = at == by
-same_b v w = false
+same_b v w = v.code == w.code && v.at == w.at
 
 -- ---- counts
 abbrev pub nothing : Counts
@@ -56,4 +34,4 @@ up_of n t = cond t ((n + 1) % 2 ^ 64) n
 
 abbrev pub counted_of : Counts → Verdict → Verdict → Counts
 counted_of c found expected =
-    record { all = up_of c.all true; whole = up_of c.whole (is_whole found); cut = up_of c.cut (is_cut found); none = up_of c.none (is_none found); differ = up_of c.differ (not (same_b found expected)) }
+    record { all = up_of c.all true; whole = up_of c.whole (found.code == 0); cut = up_of c.cut (found.code == 1); none = up_of c.none (is_none found.code); differ = up_of c.differ (not (same_b found expected)) }

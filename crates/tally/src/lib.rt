@@ -3,51 +3,78 @@
 #![tactic(auto)]
 
 ghost use Rattle.std.specs.Prelude.{◌≡◌};
-ghost use Rattle.tally.specs.Counts.{dropped_of, is_whole, is_cut, is_none, nothing, up_of, counted_of};
+ghost use Rattle.tally.specs.Counts.{verdict, dropped_of, is_none, same_b, nothing, up_of, counted_of};
 
 use laws::Reason;
 use scribe::STDOUT_FILENO;
 
-// What comes of a byte string. The number is the place of the byte, from 1, at which the machine dropped out, and 0 where it
-// was at the end.
+pub const WHOLE: u8 = 0;
+
+pub const CUT: u8 = 1;
+
+pub const BAD: u8 = 2;
+
+pub const BROKEN: u8 = 3;
+
+pub const UNFIT: u8 = 4;
+
+// What comes of a byte string: one of the codes, and of a bad byte or a broken escape at which byte, from 1; else 0. A number and no
+// enum, since the fields are open and counts answer for any code.
 #[derive(Clone, Copy, PartialEq, Eq)]
-pub enum Verdict {
-    Whole,
-    Cut(usize),
-    Bad(usize),
-    Broken(usize),
-    Unfit(usize),
+pub struct Verdict {
+    pub code: u8,
+    pub at: usize,
 }
 
 impl Verdict {
+    pub fn of(code: u8) -> Verdict
+        ensures { result ≡ verdict code 0 }
+    {
+        Verdict { code, at: 0 }
+    }
+
+    pub fn bad(at: usize) -> Verdict
+        ensures { result ≡ verdict 2 at }
+    {
+        Verdict { code: BAD, at }
+    }
+
+    pub fn broken(at: usize) -> Verdict
+        ensures { result ≡ verdict 3 at }
+    {
+        Verdict { code: BROKEN, at }
+    }
+
     // A machine that dropped out; what none of the machines here drops out for is not fit.
     pub fn dropped(reason: Reason, at: usize) -> Verdict
         ensures { result ≡ dropped_of reason at }
     {
         match reason {
-            Reason::BadByte => Verdict::Bad(at),
-            Reason::BrokenEscape => Verdict::Broken(at),
-            Reason::CutAtClose => Verdict::Cut(at),
-            Reason::Class255 | Reason::BadSecondByte | Reason::NotInSlate => Verdict::Unfit(at),
+            Reason::Class255 => Verdict { code: UNFIT, at },
+            Reason::BadByte => Verdict { code: BAD, at },
+            Reason::BadSecondByte => Verdict { code: UNFIT, at },
+            Reason::BrokenEscape => Verdict { code: BROKEN, at },
+            Reason::CutAtClose => Verdict { code: CUT, at },
+            Reason::NotInSlate => Verdict { code: UNFIT, at },
         }
     }
 
-    fn is_whole(self) -> bool
-        ensures { result ≡ is_whole self }
-    {
-        matches!(self, Verdict::Whole)
-    }
-
-    fn is_cut(self) -> bool
-        ensures { result ≡ is_cut self }
-    {
-        matches!(self, Verdict::Cut(_))
-    }
-
     fn is_none(self) -> bool
-        ensures { result ≡ is_none self }
+        ensures { result ≡ is_none self.code }
     {
-        matches!(self, Verdict::Bad(_) | Verdict::Broken(_))
+        if self.code == BAD {
+            return true;
+        }
+        self.code == BROKEN
+    }
+
+    fn is(self, other: Verdict) -> bool
+        ensures { result ≡ same_b self other }
+    {
+        if self.code == other.code {
+            return self.at == other.at;
+        }
+        false
     }
 }
 
@@ -85,10 +112,10 @@ impl Counts {
     {
         Counts {
             all: up(self.all, true),
-            whole: up(self.whole, found.is_whole()),
-            cut: up(self.cut, found.is_cut()),
+            whole: up(self.whole, found.code == WHOLE),
+            cut: up(self.cut, found.code == CUT),
             none: up(self.none, found.is_none()),
-            differ: up(self.differ, found != expected),
+            differ: up(self.differ, !found.is(expected)),
         }
     }
 
