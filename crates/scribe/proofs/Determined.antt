@@ -1,6 +1,6 @@
 -- Each public function's contract asks nothing and determines the reply and what the page holds.
 use Rattle.std.proofs.Common.{refl, ap}
-use Rattle.laws.specs.Determined.{Determined, same}
+use Rattle.laws.specs.Determined.{Determined, DeterminedSeen, same}
 use Rattle.scribe.specs.Page.{Page}
 use Rattle.scribe.proofs.page.Page.new.Kinds as new-kinds
 use Rattle.scribe.proofs.page.Page.new.Reads as new-reads
@@ -16,6 +16,8 @@ use Rattle.scribe.proofs.page.Page.decimal.Kinds as decimal-kinds
 use Rattle.scribe.proofs.page.Page.decimal.Reads as decimal-reads
 use Rattle.scribe.proofs.page.Page.signed.Kinds as signed-kinds
 use Rattle.scribe.proofs.page.Page.signed.Reads as signed-reads
+use Rattle.scribe.proofs.page.PageAsSliceU8.as_slice.Kinds as as-slice-kinds
+use Rattle.scribe.proofs.page.PageAsSliceU8.as_slice.Reads as as-slice-reads
 
 pub new : Determined 1 new-kinds.ps new-kinds.r new-reads.Asked new-reads.Learnt
 new = record { total = λ κs a. tt; one = λ κs a z z' w w' p q. (same p q, refl) }
@@ -37,3 +39,6 @@ decimal = record { total = λ κs a. tt; one = λ κs a z z' w w' p q. (refl, ap
 
 pub signed : Determined 2 signed-kinds.ps signed-kinds.r signed-reads.Asked signed-reads.Learnt
 signed = record { total = λ κs a. tt; one = λ κs a z z' w w' p q. (refl, ap (λ (s : Page). (s, (tt, tt))) (same p q)) }
+
+pub as_slice : DeterminedSeen 2 as-slice-kinds.ps as-slice-kinds.r as-slice-reads.Asked as-slice-reads.Learnt (λ κs s. s.now)
+as_slice = record { total = λ κs a. tt; one = λ κs a z z' w w' p q. (same p q, refl) }

@@ -3,7 +3,7 @@ use Rattle.std.proofs.Common.{◌≡◌, [], refl}
 use denote.RattleType.{RattleType}
 use denote.Param.Laws.{Laws, IsCopy}
 use mathlib.Core.List.{not-mem-nil}
-use Rattle.laws.specs.Determined.{Determined, same}
+use Rattle.laws.specs.Determined.{Determined, OneReply, same}
 use Rattle.single.proofs.is_common.Kinds as is-common-kinds
 use Rattle.single.proofs.is_common.Reads as is-common-reads
 use Rattle.single.proofs.is_non_latin_alphabetic.Kinds as is-non-latin-alphabetic-kinds
@@ -26,6 +26,10 @@ use Rattle.single.proofs.machine.run.Kinds as run-kinds
 use Rattle.single.proofs.machine.run.Reads as run-reads
 use Rattle.single.proofs.machine.close.Kinds as close-kinds
 use Rattle.single.proofs.machine.close.Reads as close-reads
+use Rattle.single.proofs.machine.AsciiBefore.ascii_before.Kinds as before-kinds
+use Rattle.single.proofs.machine.AsciiBefore.ascii_before.Reads as before-reads
+use Rattle.single.proofs.machine.AsciiBefore.is_ascii_pair.Kinds as pair-kinds
+use Rattle.single.proofs.machine.AsciiBefore.is_ascii_pair.Reads as pair-reads
 
 -- ---- of every type that holds no borrow, as the records don't
 pub run : (T : RattleType) (l : Laws T) (k : IsCopy T) → T.lives ≡ [] → (s : _) (sd : _) (c : _) (cd : _) → Determined 4 (run-kinds.ps T l k) (run-kinds.r T l k) (run-reads.Asked T l k s sd c cd) (run-reads.Learnt T l k s sd c cd)
@@ -33,6 +37,13 @@ run T l k none s sd c cd = record { total = λ κs a n m. absurd (not-mem-nil (r
 
 pub close : (T : RattleType) (l : Laws T) (k : IsCopy T) → T.lives ≡ [] → (s : _) (sd : _) (c : _) (cd : _) → Determined 3 (close-kinds.ps T l k) (close-kinds.r T l k) (close-reads.Asked T l k s sd c cd) (close-reads.Learnt T l k s sd c cd)
 close T l k none s sd c cd = record { total = λ κs a n m. absurd (not-mem-nil (rw none at m)); one = λ κs a z z' w w' p q. (same p.0 q.0, refl) }
+
+-- what asks something of the caller: the reply is one all the same
+pub ascii_before_reply : (T : RattleType) (l : Laws T) (k : IsCopy T) → (s : _) (sd : _) (c : _) (cd : _) → OneReply 2 (before-kinds.ps T l k) (before-kinds.r T l k) (before-reads.Learnt T l k s sd c cd)
+ascii_before_reply T l k s sd c cd = record { one = λ κs a z z' w w' p q. (same p q, refl) }
+
+pub ascii_pair_reply : (T : RattleType) (l : Laws T) (k : IsCopy T) → (s : _) (sd : _) (c : _) (cd : _) → OneReply 2 (pair-kinds.ps T l k) (pair-kinds.r T l k) (pair-reads.Learnt T l k s sd c cd)
+ascii_pair_reply T l k s sd c cd = record { one = λ κs a z z' w w' p q. (same p q, refl) }
 
 -- ----
 pub is_common : Determined 0 is-common-kinds.ps is-common-kinds.r is-common-reads.Asked is-common-reads.Learnt
