@@ -22,10 +22,10 @@ found noted xs i (Some a) = Some (noted xs (i + 1) a.0, a.1)
 
 -- two replies that `Steps` admits are found to be the same
 module _ {S : Type 0} (step : Lent → S → ℕ → Outcome S) (noted : List ℕ → ℕ → S → S) (Rests : Lent → ℕ → S → Type 0) (t : Lent) (xs : List ℕ) (i : ℕ) (m : S) where
-  apart : {n : S} {g : ℤ} {d : Reason} → live n g ≡ none d → ⊥
+  apart : {n : S} {g : ℤ} {d : Reason} → ◌≡◌ {A = Outcome S} (live n g) (none d) → ⊥
   apart e = cc
 
-  alike : {n k : S} {g h : ℤ} → live n g ≡ live k h → ◌≡◌ {A = Option (S × ℤ)} (Some (n, g)) (Some (k, h))
+  alike : {n k : S} {g h : ℤ} → ◌≡◌ {A = Outcome S} (live n g) (live k h) → ◌≡◌ {A = Option (S × ℤ)} (Some (n, g)) (Some (k, h))
   alike e = cc
 
   pub steps_one : (r s : Option (S × ℤ)) → Steps step noted Rests t xs i m r → Steps step noted Rests t xs i m s → found noted xs i r ≡ found noted xs i s
