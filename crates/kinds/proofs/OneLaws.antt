@@ -1,5 +1,5 @@
 -- What a kind's functions say of a reply, as one of the nine, determines the reply: a machine is made of one record alone.
-use Rattle.std.specs.Prelude.{◌≡◌, refl, ℕ, true, false, eqb, Option, Some, None, Ok, Err}
+use Rattle.std.specs.Prelude.{◌≡◌, refl, ℕ, ℤ, true, false, eqb, Option, Some, None, Ok, Err}
 use borrow.Author.Tests.{eq-eqb}
 use Rattle.std.proofs.Common.{sym, ap, ◌∙◌}
 use Rattle.laws.specs.Answer.{Ran}
@@ -30,9 +30,9 @@ module _ {S : Type 0} (whole : S → Machine) where
 
   pub one_wrapped : ((m n : S) → whole m ≡ whole n → m ≡ n) → (r s : Ran S) → wrapped whole r ≡ wrapped whole s → r ≡ s
   one_wrapped own (Ok a) (Ok b) e =
-      let p : whole a.0 ≡ whole b.0 = cc in
-      let q : a.1 ≡ b.1 = cc in
-      λ i. Ok (own a.0 b.0 p i, q i)
+      let w : ◌≡◌ {A = Machine × ℤ} (whole a.0, a.1) (whole b.0, b.1) = cc in
+      let p : whole a.0 ≡ whole b.0 = ap (λ (t : Machine × ℤ). t.0) w in
+      λ i. Ok (own a.0 b.0 p i, (w i).1)
   one_wrapped own (Ok a) (Err y) e = cc
   one_wrapped own (Err x) (Ok b) e = cc
   one_wrapped own (Err x) (Err y) e = cc
