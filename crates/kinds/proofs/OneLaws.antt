@@ -1,5 +1,5 @@
 -- What a kind's functions say of a reply, as one of the nine, determines the reply: a machine is made of one record alone.
-use Rattle.std.specs.Prelude.{◌≡◌, refl, ℕ, ℤ, true, false, eqb, Option, Some, None, Ok, Err}
+use Rattle.std.specs.Prelude.{◌≡◌, refl, ℕ, ℤ, true, false, Option, Some, None, Ok, Err}
 use borrow.Author.Tests.{eq-eqb}
 use Rattle.std.proofs.Common.{sym, ap, ◌∙◌}
 use Rattle.laws.specs.Answer.{Ran}
