@@ -174,15 +174,15 @@ module _ (xs : List ℕ) (n : ℕ) (clear : any is_trigger (take n xs) ≡ false
     first_byte true e q = record { within = inside; there = byte_is ∙ eqb-true b escape e; before = clear }
     first_byte false e q = record { within = inside; there = ap non_ascii byte_is ∙ q refl; before = clear }
 
-  first_at : (other : (b : ℕ) → is_trigger b ≡ true → eqb b escape ≡ false → non_ascii b ≡ true) (ys : List ℕ) → drop n xs ≡ ys → Starts ys → First xs (scanned_at n ys)
-  first_at other [] d q =
+  pub first_where : (other : (b : ℕ) → is_trigger b ≡ true → eqb b escape ≡ false → non_ascii b ≡ true) (ys : List ℕ) → drop n xs ≡ ys → Starts ys → First xs (scanned_at n ys)
+  first_where other [] d q =
       let whole : take n xs ≡ xs = sym (append-nil (take n xs)) ∙ (ap (λ (l : List ℕ). take n xs ++ l) (sym d) ∙ take-append-drop n xs) in
       rw whole at clear
-  first_at other (b ∷ bs) d q = first_byte b bs d (eqb b escape) refl (other b q)
+  first_where other (b ∷ bs) d q = first_byte b bs d (eqb b escape) refl (other b q)
 
 -- The scan gives the first byte that is the escape or non-ASCII, and nothing before it qualifies.
 pub scan_first : (xs : List ℕ) → First xs (scan_of xs)
 unfolding scan_of
 scan_first xs =
     let n = length (head_of xs) in
-    first_at xs n (ap (any is_trigger) (head_take xs) ∙ head_triggerless xs) (λ b q e. rw e at q) (drop n xs) refl (head_stops xs)
+    first_where xs n (ap (any is_trigger) (head_take xs) ∙ head_triggerless xs) (λ b q e. rw e at q) (drop n xs) refl (head_stops xs)

@@ -12,7 +12,8 @@ use Rattle.big5.specs.Big5 as big5
 use Rattle.big5.specs.declared.Big5.{Big5 as Big5Record}
 use Rattle.euckr.specs.EucKr as euckr
 use Rattle.euckr.specs.declared.EucKr.{EucKr as EucKrRecord}
-use Rattle.kinds.specs.Kinds.{Weighed}
+use Rattle.kinds.specs.Kinds.{Weighed, wrapped}
+use Rattle.kinds.specs.KindsLaws.{weighed_wrapped}
 use Rattle.kinds.specs.declared.machine.Machine.TheVariants.{EucKr, Big5}
 
 -- what the step before leaves is the record at the next byte
@@ -27,6 +28,12 @@ pub weighed_euckr : (w : List ℤ) (m : EucKrRecord) (r : Ran EucKrRecord) → e
 weighed_euckr w m (Ok a) h = h
 weighed_euckr w m (Err e) h = tt
 
+pub weighed_wrapped_euckr : (w : List ℤ) (m : EucKrRecord) (r : Ran EucKrRecord) → euckr.Weighed w r → Weighed (EucKr m) w (wrapped EucKr r)
+weighed_wrapped_euckr w m r h = weighed_wrapped EucKr (EucKr m) w r (weighed_euckr w m r h)
+
 pub weighed_big5 : (w : List ℤ) (m : Big5Record) (r : Ran Big5Record) → big5.Weighed w r → Weighed (Big5 m) w r
 weighed_big5 w m (Ok a) h = h
 weighed_big5 w m (Err e) h = tt
+
+pub weighed_wrapped_big5 : (w : List ℤ) (m : Big5Record) (r : Ran Big5Record) → big5.Weighed w r → Weighed (Big5 m) w (wrapped Big5 r)
+weighed_wrapped_big5 w m r h = weighed_wrapped Big5 (Big5 m) w r (weighed_big5 w m r h)

@@ -9,7 +9,8 @@ use Rattle.laws.specs.Carried.{carried, run_carried, ends_carried}
 use Rattle.laws.specs.Limit.{limit, room}
 use Rattle.laws.specs.Run.{Outcome, none, live, run, last_at}
 use Rattle.laws.specs.declared.Stop.{Stop}
-use Rattle.laws.specs.declared.Stop.TheVariants.{Unfit}
+use Rattle.laws.specs.declared.Reason.{Reason}
+use Rattle.laws.specs.declared.Stop.TheVariants.{Dropped, Unfit}
 use Rattle.laws.specs.Still.{Ends}
 use Rattle.laws.specs.Tests.{either}
 use Rattle.big5.specs.Big5 as big5
@@ -88,19 +89,25 @@ module _ (t : Own) (s : ℤ) (xs : List ℕ) where
   run_shift_jis m = run_carried ShiftJis (shiftJis.step_of t.index) (step_of t) (λ (n : ShiftJisRecord) (b : ℕ). refl) (live m s) xs
 
 -- ---- an answer of each kind is that of its outcome
-wrapped_answer : {S : Type 0} (wrap : S → Machine) (at : ℕ) (o : Outcome S) → wrapped wrap (answered at o) ≡ ran_as at (carried wrap o)
+scored_answer : {S : Type 0} (wrap : S → Machine) (of : Ran S → Ran Machine) → ((m : S) (s : ℤ) → of (Ok (m, s)) ≡ Ok (wrap m, s)) → ((d : Reason) (at : ℕ) → of (Err (Dropped d at)) ≡ Err (Dropped d at)) → (at : ℕ) (o : Outcome S) → of (answered at o) ≡ ran_as at (carried wrap o)
 unfolding carried
-wrapped_answer wrap at (none d) = refl
-wrapped_answer wrap at (live m s) = refl
+scored_answer wrap of live_is none_is at (none d) = none_is d at
+scored_answer wrap of live_is none_is at (live m s) = live_is m s
+
+wrapped_answer : {S : Type 0} (wrap : S → Machine) (at : ℕ) (o : Outcome S) → wrapped wrap (answered at o) ≡ ran_as at (carried wrap o)
+wrapped_answer {S = S} wrap at o = scored_answer wrap (wrapped wrap) (λ (m : S) (s : ℤ). refl) (λ (d : Reason) (i : ℕ). refl) at o
 
 -- of a kind whose score never changes
 abbrev still : {S : Type 0} → (S → Machine) → Result S Stop → Ran Machine
 still wrap r = wrapped wrap (unchanged r)
 
-still_answer : {S : Type 0} (P : S → Type 0) (wrap : S → Machine) (at : ℕ) (o : Outcome S) → Ends P (pos 0) o → still wrap (reached at o) ≡ ran_as at (carried wrap o)
+still_answer : {S : Type 0} (P : S → Type 0) (wrap : S → Machine) (answer : ℕ → Outcome S → Ran Machine) → ((at : ℕ) (d : Reason) → answer at (none d) ≡ Err (Dropped d at)) → ((at : ℕ) (m : S) (s : ℤ) → answer at (live m s) ≡ Ok (wrap m, pos 0)) → (at : ℕ) (o : Outcome S) → Ends P (pos 0) o → answer at o ≡ ran_as at (carried wrap o)
 unfolding carried
-still_answer P wrap at (none d) h = refl
-still_answer P wrap at (live m s) h = ap (λ (k : ℤ). Ok (wrap m, k)) (sym h.1)
+still_answer P wrap answer none_is live_is at (none d) h = none_is at d
+still_answer P wrap answer none_is live_is at (live m s) h = live_is at m s ∙ ap (λ (k : ℤ). Ok (wrap m, k)) (sym h.1)
+
+reached_answer : {S : Type 0} (P : S → Type 0) (wrap : S → Machine) (at : ℕ) (o : Outcome S) → Ends P (pos 0) o → still wrap (reached at o) ≡ ran_as at (carried wrap o)
+reached_answer {S = S} P wrap at o h = still_answer P wrap (λ (i : ℕ) (p : Outcome S). still wrap (reached i p)) (λ (i : ℕ) (d : Reason). refl) (λ (i : ℕ) (m : S) (s : ℤ). refl) at o h
 
 -- ---- the ends that change no score
 pub utf_8_still : (m : Utf8Record) → utf-8.Sound m → Ends utf-8.Sound (pos 0) (utf-8.close_of m)
@@ -136,9 +143,9 @@ module _ (t : Own) where
     pub ran_fit : (m : Machine) → SizedAt (place_number m) t → SoundFor limit limit m → ran_of t m xs ≡ ran_as (last_at (step_of t) (live m (pos 0)) xs) (run (step_of t) (live m (pos 0)) xs)
     unfolding ran_of step_of
     ran_fit (Utf8 m) z o =
-        ap (still Utf8) (utf-8-laws.ran_ready m xs (record { sound = o; short = short })) ∙ (still_answer utf-8.Sound Utf8 _ (run utf-8.step_of (live m (pos 0)) xs) (utf-8-laws.run_keeps m (pos 0) xs o) ∙ own_run Utf8 utf-8.step_of (step_of t) (λ x b. refl) m xs)
+        ap (still Utf8) (utf-8-laws.ran_ready m xs (record { sound = o; short = short })) ∙ (reached_answer utf-8.Sound Utf8 _ (run utf-8.step_of (live m (pos 0)) xs) (utf-8-laws.run_keeps m (pos 0) xs o) ∙ own_run Utf8 utf-8.step_of (step_of t) (λ x b. refl) m xs)
     ran_fit (Iso2022Jp m) z o =
-        ap (still Iso2022Jp) (iso2022jp-laws.ran_ready t.index m xs (record { sound = o; sized = z; short = short })) ∙ (still_answer iso2022jp.Sound Iso2022Jp _ (run (iso2022jp.step_of t.index) (live m (pos 0)) xs) (iso2022jp-laws.run_keeps t.index m (pos 0) xs o) ∙ own_run Iso2022Jp (iso2022jp.step_of t.index) (step_of t) (λ x b. refl) m xs)
+        ap (still Iso2022Jp) (iso2022jp-laws.ran_ready t.index m xs (record { sound = o; sized = z; short = short })) ∙ (reached_answer iso2022jp.Sound Iso2022Jp _ (run (iso2022jp.step_of t.index) (live m (pos 0)) xs) (iso2022jp-laws.run_keeps t.index m (pos 0) xs o) ∙ own_run Iso2022Jp (iso2022jp.step_of t.index) (step_of t) (λ x b. refl) m xs)
     ran_fit (EucKr m) z o =
         ap (wrapped EucKr) (euckr-laws.ran_ready t.index t.extras t.weights m xs (record { sound = euckr-laws.sound_more limit room m (omega arith) o; short = short; index_length = z.0; extras_length = z.1.0; weights_length = z.1.1 })) ∙ (wrapped_answer EucKr _ _ ∙ own_run EucKr (euckr-scoring.step_of (euckr-scoring.lent t.index t.extras (euckr-scoring.scale_of t.weights))) (step_of t) (λ x b. refl) m xs)
     ran_fit (Big5 m) z o =
@@ -148,20 +155,20 @@ module _ (t : Own) where
     ran_fit (Visual m) z o = ap (wrapped Visual) (visual-laws.ran_fit (lent_to t) m xs (record { sized = z; sound = visual-laws.sound_more limit room m (omega arith) o.1; short = short })) ∙ (wrapped_answer Visual _ _ ∙ own_run Visual (visual.step_of (lent_to t)) (step_of t) (λ x b. refl) m xs)
     ran_fit (ArabicFrench m) z o = ap (wrapped ArabicFrench) (arabicFrench-laws.ran_fit (lent_to t) m xs (record { sized = z; sound = arabicFrench-laws.sound_more limit room m (omega arith) o.1; short = short })) ∙ (wrapped_answer ArabicFrench _ _ ∙ own_run ArabicFrench (arabic_french.step_of (lent_to t)) (step_of t) (λ x b. refl) m xs)
     ran_fit (ShiftJis m) z o =
-        ap (still ShiftJis) (shiftJis-laws.ran_ready t.index m xs (record { sound = o; sized = z; short = short })) ∙ (still_answer shiftJis.Sound ShiftJis _ (run (shiftJis.step_of t.index) (live m (pos 0)) xs) (shiftJis-laws.run_keeps t.index m (pos 0) xs o) ∙ own_run ShiftJis (shiftJis.step_of t.index) (step_of t) (λ x b. refl) m xs)
+        ap (still ShiftJis) (shiftJis-laws.ran_ready t.index m xs (record { sound = o; sized = z; short = short })) ∙ (reached_answer shiftJis.Sound ShiftJis _ (run (shiftJis.step_of t.index) (live m (pos 0)) xs) (shiftJis-laws.run_keeps t.index m (pos 0) xs o) ∙ own_run ShiftJis (shiftJis.step_of t.index) (step_of t) (λ x b. refl) m xs)
 
   -- ---- the end of the stream, after a stretch
   pub closed_fit : (m : Machine) → SizedAt (place_number m) t → SoundFor (2 * limit) (2 * limit) m → closed_of t m ≡ ran_as 0 (close_of t m)
   unfolding closed_of close_of
-  closed_fit (Utf8 m) z o = ap (still Utf8) (utf-8-laws.closed_ready m o) ∙ still_answer utf-8.Sound Utf8 0 (utf-8.close_of m) (utf_8_still m o)
-  closed_fit (Iso2022Jp m) z o = ap (still Iso2022Jp) (iso2022jp-laws.closed_ready m o) ∙ still_answer iso2022jp.Sound Iso2022Jp 0 (iso2022jp.close_of m) (iso2022jp_still m o)
+  closed_fit (Utf8 m) z o = ap (still Utf8) (utf-8-laws.closed_ready m o) ∙ reached_answer utf-8.Sound Utf8 0 (utf-8.close_of m) (utf_8_still m o)
+  closed_fit (Iso2022Jp m) z o = ap (still Iso2022Jp) (iso2022jp-laws.closed_ready m o) ∙ reached_answer iso2022jp.Sound Iso2022Jp 0 (iso2022jp.close_of m) (iso2022jp_still m o)
   closed_fit (EucKr m) z o = ap (wrapped EucKr) (euckr-laws.closed_ready m (euckr-laws.sound_more (2 * limit) room m (omega arith) o)) ∙ wrapped_answer EucKr 0 (euckr.close_of m)
   closed_fit (Big5 m) z o = ap (wrapped Big5) (big5-laws.closed_ready m (big5-laws.sound_any (2 * limit) limit m o)) ∙ wrapped_answer Big5 0 (big5.close_of m)
   closed_fit (Caseless m) z o = ap (wrapped Caseless) (caseless-laws.closed_fit (lent_to t) m (record { sized = z; sound = caseless-laws.sound_more (2 * limit) room m (omega arith) o.1; short = omega arith })) ∙ wrapped_answer Caseless 0 _
   closed_fit (Logical m) z o = ap (wrapped Logical) (logical-laws.closed_fit (lent_to t) m (record { sized = z; sound = logical-laws.sound_more (2 * limit) room m (omega arith) o.1.1; short = omega arith })) ∙ wrapped_answer Logical 0 _
   closed_fit (Visual m) z o = ap (wrapped Visual) (visual-laws.closed_fit (lent_to t) m (record { sized = z; sound = visual-laws.sound_more (2 * limit) room m (omega arith) o.1; short = omega arith })) ∙ wrapped_answer Visual 0 _
   closed_fit (ArabicFrench m) z o = ap (wrapped ArabicFrench) (arabicFrench-laws.closed_fit (lent_to t) m (record { sized = z; sound = arabicFrench-laws.sound_more (2 * limit) room m (omega arith) o.1; short = omega arith })) ∙ wrapped_answer ArabicFrench 0 _
-  closed_fit (ShiftJis m) z o = ap (still ShiftJis) (shiftJis-laws.closed_ready m o) ∙ still_answer shiftJis.Sound ShiftJis 0 (shiftJis.close_of m) (shift_jis_still m o)
+  closed_fit (ShiftJis m) z o = ap (still ShiftJis) (shiftJis-laws.closed_ready m o) ∙ reached_answer shiftJis.Sound ShiftJis 0 (shiftJis.close_of m) (shift_jis_still m o)
 
 -- ---- a machine of another kind than the one that is run alone
 pub unfit_at : (k : ℕ) (o : Own) (m : Machine) (xs : List ℕ) → false ≡ eqb (place_number m) k → Err Unfit ≡ ran_at k o m xs

@@ -30,8 +30,24 @@ fn stopped(stop: Stop, after: usize) -> Verdict {
     }
 }
 
+fn ended(m: ShiftJis) -> Verdict {
+    match m.close() {
+        Ok(_) => Verdict::of(tally::WHOLE),
+        Err(stop) => stopped(stop, 0),
+    }
+}
+
+// What comes of a stream in one piece. It is no call of `machine_in`: over a list of one part the sweeps of all pairs take half as
+// many instructions again.
+fn machine(stream: &[u8], index: &[u32]) -> Verdict {
+    match ShiftJis::fresh().run(stream, index) {
+        Ok(m) => ended(m),
+        Err(stop) => stopped(stop, 1),
+    }
+}
+
 // What comes of a stream that is fed in these parts.
-fn machine(parts: &[&[u8]], index: &[u32]) -> Verdict {
+fn machine_in(parts: &[&[u8]], index: &[u32]) -> Verdict {
     let mut m = ShiftJis::fresh();
     let mut after: usize = 0;
     for part in parts {
@@ -41,10 +57,7 @@ fn machine(parts: &[&[u8]], index: &[u32]) -> Verdict {
         }
         after = after.wrapping_add(part.len());
     }
-    match m.close() {
-        Ok(_) => Verdict::of(tally::WHOLE),
-        Err(stop) => stopped(stop, 0),
-    }
+    ended(m)
 }
 
 // ---- the second check
@@ -161,19 +174,14 @@ fn swept<F: Fn(u8, u8) -> (Verdict, Verdict)>(from: u32, to: u32, case: F) -> Co
 
 // Printed by `io::write_all`: `println!` gives each call a `Result` to be thrown away.
 fn print_singles(index: &[u32]) {
-    swept(
-        0,
-        256,
-        |_, b| (machine(&[&[b]], index), second(&[b], index)),
-    )
-    .print(b"single bytes:");
+    swept(0, 256, |_, b| (machine(&[b], index), second(&[b], index))).print(b"single bytes:");
 }
 
 fn print_pairs(index: &[u32]) {
     swept(
         0,
         65536,
-        |a, b| (machine(&[&[a, b]], index), second(&[a, b], index)),
+        |a, b| (machine(&[a, b], index), second(&[a, b], index)),
     )
     .print(b"pairs:");
 }
@@ -183,8 +191,8 @@ fn print_pairs(index: &[u32]) {
 fn print_beside(index: &mut [u32; JIS], entry: u32, expected: Verdict) {
     index[PRIVATE - 1] = entry;
     index[PAST] = entry;
-    let before = machine(&[&[0xEF, 0xFC]], index);
-    let after = machine(&[&[0xFA, 0x40]], index);
+    let before = machine(&[0xEF, 0xFC], index);
+    let after = machine(&[0xFA, 0x40], index);
     let counts = Counts::nothing()
         .counted(before, expected)
         .counted(after, expected);
@@ -203,7 +211,7 @@ fn print_private(index: &mut [u32; JIS], entry: u32) {
     swept(
         0xF000,
         0xFA00,
-        |a, b| (machine(&[&[a, b]], index), second_private(b)),
+        |a, b| (machine(&[a, b], index), second_private(b)),
     )
     .print(b"leads F0 to F9 and any byte:");
 }
@@ -218,10 +226,13 @@ struct Cuts {
 }
 
 fn counted_two(counts: Counts, stream: &[u8], index: &[u32]) -> Counts {
-    let expected = machine(&[stream], index);
+    let expected = machine(stream, index);
     let mut found = counts;
     for cut in 0..=stream.len() {
-        found = found.counted(machine(&[&stream[..cut], &stream[cut..]], index), expected);
+        found = found.counted(
+            machine_in(&[&stream[..cut], &stream[cut..]], index),
+            expected,
+        );
     }
     found
 }
@@ -230,11 +241,11 @@ fn counted_two(counts: Counts, stream: &[u8], index: &[u32]) -> Counts {
 fn counted_three(counts: Counts, stream: &[u8], second: usize, index: &[u32]) -> Counts
     requires { second ≤ length stream.now }
 {
-    let expected = machine(&[stream], index);
+    let expected = machine(stream, index);
     let mut found = counts;
     for first in 0..=second {
         found = found.counted(
-            machine(
+            machine_in(
                 &[&stream[..first], &stream[first..second], &stream[second..]],
                 index,
             ),
@@ -252,7 +263,7 @@ fn with_stream(cuts: Cuts, stream: &[u8], index: &[u32]) -> Cuts {
         three = counted_three(three, stream, second, index);
     }
     Cuts {
-        one: one.counted(machine(&[stream], index), second(stream, index)),
+        one: one.counted(machine(stream, index), second(stream, index)),
         two: counted_two(two, stream, index),
         three,
     }
