@@ -1,9 +1,19 @@
 // A place alone: its machine over its own tables, and its score.
+use arabic_french::ArabicFrench;
+use big5::Big5;
+use caseless_script::Caseless;
+use euckr::EucKr;
+use iso2022jp::Iso2022Jp;
+use kinds::machine;
 use kinds::machine::Machine;
 use laws::{Ran, Reason, Stop};
+use logical::Logical;
 use places::place::{NoScore, Place};
 use scribe::STDOUT_FILENO;
+use shift_jis::ShiftJis;
 use tables::own::Own;
+use utf8::Utf8;
+use visual::Visual;
 
 // What comes to a machine in one call: all bytes of the case, one byte and how many came before it, or the end.
 #[derive(Clone, Copy, PartialEq, Eq)]
@@ -49,6 +59,22 @@ fn settled(machine: Machine, old: i64, ran: Ran<Machine>, bytes: usize) -> Place
     }
 }
 
+// What a machine makes of a part, by the function that the feed has for its kind, so that what is compared with the Rust is what
+// the product runs.
+fn ran(machine: Machine, part: &[u8], own: &Own) -> Ran<Machine> {
+    match machine {
+        Machine::Utf8(_) => machine::run::<Utf8>(machine, part, own),
+        Machine::Iso2022Jp(_) => machine::run::<Iso2022Jp>(machine, part, own),
+        Machine::EucKr(_) => machine::run::<EucKr>(machine, part, own),
+        Machine::Big5(_) => machine::run::<Big5>(machine, part, own),
+        Machine::Caseless(_) => machine::run::<Caseless>(machine, part, own),
+        Machine::Logical(_) => machine::run::<Logical>(machine, part, own),
+        Machine::Visual(_) => machine::run::<Visual>(machine, part, own),
+        Machine::ArabicFrench(_) => machine::run::<ArabicFrench>(machine, part, own),
+        Machine::ShiftJis(_) => machine::run::<ShiftJis>(machine, part, own),
+    }
+}
+
 // The place after what comes next. The part is all of the case; it is read only where all of it comes.
 pub(crate) fn fed(p: Place, next: Next, part: &[u8], own: &Own) -> Place {
     let machine = p.machine;
@@ -57,10 +83,10 @@ pub(crate) fn fed(p: Place, next: Next, part: &[u8], own: &Own) -> Place {
         return p;
     };
     // what the machine answers, and how many bytes of the case came before
-    let (ran, before) = match next {
-        Next::Part => (machine.run(part, own), 0),
-        Next::Byte(b, i) => (machine.run(&[b], own), i),
+    let (answer, before) = match next {
+        Next::Part => (ran(machine, part, own), 0),
+        Next::Byte(b, i) => (ran(machine, &[b], own), i),
         Next::End => (machine.close(own), part.len()),
     };
-    settled(machine, old, ran, before)
+    settled(machine, old, answer, before)
 }
