@@ -1,7 +1,8 @@
--- Each public function's contract asks nothing and determines the reply and what the page holds.
-use Rattle.std.proofs.Common.{refl, ap}
+-- Each public function's contract asks nothing and determines the reply, what the page and its buffer hold, and what is left in a buffer given back.
+use Rattle.std.proofs.Common.{List, ℕ, refl, ap}
 use Rattle.laws.specs.Determined.{Determined, same}
-use Rattle.scribe.specs.Page.{Page}
+use Rattle.scribe.specs.PageLaws.{alike}
+use Rattle.scribe.specs.declared.page.Page.{Page}
 use Rattle.scribe.proofs.page.Page.new.Kinds as new-kinds
 use Rattle.scribe.proofs.page.Page.new.Reads as new-reads
 use Rattle.scribe.proofs.page.Page.byte.Kinds as byte-kinds
@@ -16,6 +17,10 @@ use Rattle.scribe.proofs.page.Page.decimal.Kinds as decimal-kinds
 use Rattle.scribe.proofs.page.Page.decimal.Reads as decimal-reads
 use Rattle.scribe.proofs.page.Page.signed.Kinds as signed-kinds
 use Rattle.scribe.proofs.page.Page.signed.Reads as signed-reads
+use Rattle.scribe.proofs.page.Page.end.Kinds as end-kinds
+use Rattle.scribe.proofs.page.Page.end.Reads as end-reads
+use Rattle.scribe.proofs.page.word.Kinds as word-into-kinds
+use Rattle.scribe.proofs.page.word.Reads as word-into-reads
 
 pub new : Determined 1 new-kinds.ps new-kinds.r new-reads.Asked new-reads.Learnt
 new = record { total = λ κs a. tt; one = λ κs a z z' w w' p q. (same p q, refl) }
@@ -37,3 +42,9 @@ decimal = record { total = λ κs a. tt; one = λ κs a z z' w w' p q. (refl, ap
 
 pub signed : Determined 2 signed-kinds.ps signed-kinds.r signed-reads.Asked signed-reads.Learnt
 signed = record { total = λ κs a. tt; one = λ κs a z z' w w' p q. (refl, ap (λ (s : Page). (s, (tt, tt))) (same p q)) }
+
+pub end : Determined 1 end-kinds.ps end-kinds.r end-reads.Asked end-reads.Learnt
+end = record { total = λ κs a. tt; one = λ κs a z z' w w' p q. let s = alike p q in (s.0, ap (λ (l : List ℕ). ((l, tt), tt)) s.1) }
+
+pub word_into : Determined 2 word-into-kinds.ps word-into-kinds.r word-into-reads.Asked word-into-reads.Learnt
+word_into = record { total = λ κs a. tt; one = λ κs a z z' w w' p q. let s = alike p q in (s.0, ap (λ (l : List ℕ). (l, (tt, (tt, tt)))) s.1) }
