@@ -4,7 +4,7 @@ use Rattle.std.proofs.Common.{ap, ◌∙◌}
 use Rattle.scribe.specs.declared.page.Page.{Page}
 use Rattle.scribe.specs.Lent.{seen, holding, with_text}
 use Rattle.scribe.specs.Page.{Page as Sheet, page, onto}
-use Rattle.scribe.specs.PageLaws.{onto_append}
+use Rattle.scribe.specs.PageLaws.{follow}
 
 seen_holding : (p : Page) (s : Sheet) → seen (holding p s) ≡ s
 seen_holding p (page xs at) = refl
@@ -21,4 +21,4 @@ kept p text e = ap (holding p) e
 
 -- one text after the other
 pub with_both : (p : Page) (xs ys : List ℕ) {q r : Page} → q ≡ with_text p xs → r ≡ with_text q ys → r ≡ with_text p (xs ++ ys)
-with_both p xs ys {q} {r} e f = f ∙ carried p xs ys (xs ++ ys) (λ s d. ap (λ (t : Sheet). onto t ys) d ∙ onto_append (seen p) xs ys) e
+with_both p xs ys {q} {r} e f = f ∙ carried p xs ys (xs ++ ys) (λ s d. follow (seen p) xs ys d refl) e
