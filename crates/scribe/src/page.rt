@@ -7,6 +7,7 @@ ghost use Rattle.scribe.specs.Text.{flag_of, hex_of, decimal_of, signed_of};
 
 use std::convert::AsSlice;
 
+// Without a `Model`, since that would hide from a caller that the page keeps the very reference that it was lent.
 #[derive(Drop)]
 pub struct Page<'a> {
     out: &'a mut [u8],

@@ -7,4 +7,4 @@ use Rattle.spot.specs.SpotLaws.{text_stands}
 use Rattle.spot.proofs.why.Goals as goal
 
 pub returns : goal.returns
-returns c = rw (c.as_slice.ensures, text_stands _ (reason_name_lem c.args.reason) (omega arith) (ap seen c.new-text.ensures) (ap seen c.reason.ensures ∙ seen_text _ _)) at c.in_words.ensures
+returns c = rw (c.as_slice.ensures, text_stands _ (reason_name_lem c.args.reason) (omega arith) (ap seen c.new-text.ensures) (ap seen c.reason.ensures ∙ seen_text c.new-text.result _)) at c.in_words.ensures
