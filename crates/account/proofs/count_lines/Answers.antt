@@ -1,5 +1,4 @@
 -- `count_lines` meets its contract.
-use mathlib.Core.Path.{◌∙◌}
 use Rattle.scribe.specs.LentLaws.{with_both}
 use Rattle.account.specs.Account.{count_lines}
 use Rattle.account.proofs.count_lines.Goals as goal

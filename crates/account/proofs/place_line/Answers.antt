@@ -1,5 +1,4 @@
 -- `place_line` meets its contract.
-use mathlib.Core.Path.{◌∙◌}
 use Rattle.scribe.specs.LentLaws.{with_both}
 use Rattle.account.specs.Account.{place_line}
 use Rattle.account.proofs.place_line.Goals as goal

@@ -1,5 +1,4 @@
 -- `count_line` meets its contract.
-use mathlib.Core.Path.{◌∙◌}
 use Rattle.scribe.specs.LentLaws.{with_both}
 use Rattle.sheet.proofs.count_line.Goals as goal
 

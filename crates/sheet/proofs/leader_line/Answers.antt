@@ -1,5 +1,4 @@
 -- `leader_line` meets its contract.
-use mathlib.Core.Path.{◌∙◌}
 use Rattle.scribe.specs.LentLaws.{with_both}
 use Rattle.sheet.specs.Sheet.{leader_line}
 use Rattle.sheet.proofs.leader_line.Goals as goal

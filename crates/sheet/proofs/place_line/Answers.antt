@@ -1,5 +1,4 @@
 -- `place_line` meets its contract.
-use mathlib.Core.Path.{◌∙◌}
 use Rattle.scribe.specs.LentLaws.{with_both}
 use Rattle.sheet.specs.Sheet.{place_line}
 use Rattle.sheet.proofs.place_line.Goals as goal

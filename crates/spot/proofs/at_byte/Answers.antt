@@ -1,5 +1,4 @@
 -- `at_byte` meets its contract.
-use mathlib.Core.Path.{◌∙◌}
 use Rattle.scribe.specs.LentLaws.{with_both}
 use Rattle.spot.specs.Spot.{byte_text}
 use Rattle.spot.proofs.at_byte.Goals as goal

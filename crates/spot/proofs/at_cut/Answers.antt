@@ -1,5 +1,4 @@
 -- `at_cut` meets its contract.
-use mathlib.Core.Path.{◌∙◌}
 use Rattle.scribe.specs.LentLaws.{with_both}
 use Rattle.spot.proofs.at_cut.Goals as goal
 

@@ -1,5 +1,4 @@
 -- `at_end` meets its contract.
-use mathlib.Core.Path.{◌∙◌}
 use Rattle.scribe.specs.LentLaws.{with_both}
 use Rattle.spot.specs.Spot.{end_text}
 use Rattle.spot.proofs.at_end.Goals as goal

@@ -1,5 +1,4 @@
 -- `marked` meets its contract.
-use mathlib.Core.Path.{◌∙◌}
 use Rattle.scribe.specs.LentLaws.{with_both}
 use Prim.Native.Nat.{◌+◌}
 use Rattle.spot.specs.Spot.{side, marked_text}

@@ -1,5 +1,4 @@
 -- `end_line` meets its contract.
-use mathlib.Core.Path.{◌∙◌}
 use Rattle.lines.proofs.show.end_line.Goals as goal
 
 pub returns : goal.returns

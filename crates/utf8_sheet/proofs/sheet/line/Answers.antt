@@ -1,5 +1,4 @@
 -- `line` meets its contract.
-use mathlib.Core.Path.{◌∙◌}
 use Rattle.scribe.specs.LentLaws.{with_both}
 use Rattle.utf8_sheet.specs.Sheet.{line_of}
 use Rattle.utf8_sheet.proofs.sheet.line.Goals as goal

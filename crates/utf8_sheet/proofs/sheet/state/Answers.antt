@@ -1,5 +1,4 @@
 -- `state` meets its contract.
-use mathlib.Core.Path.{◌∙◌}
 use Rattle.scribe.specs.LentLaws.{with_both}
 use Rattle.utf8_sheet.specs.Sheet.{state_text}
 use Rattle.utf8_sheet.proofs.sheet.state.Goals as goal
