@@ -1,7 +1,7 @@
 -- Each public function's contract asks nothing and determines what the page holds.
 use Rattle.std.proofs.Common.{refl, ap}
 use Rattle.laws.specs.Determined.{Determined, same}
-use Rattle.scribe.specs.Page.{Page}
+use Rattle.scribe.specs.declared.page.Page.{Page}
 use Rattle.account.proofs.answer.Kinds as answer-kinds
 use Rattle.account.proofs.answer.Reads as answer-reads
 use Rattle.account.proofs.write.Kinds as write-kinds

@@ -3,7 +3,7 @@
 
 ghost use Rattle.std.specs.Prelude.{◌≡◌, ◌-◌};
 ghost use Rattle.account.specs.Account.{head_length, told_text, place_line, place_lines, count_lines, account_of, answer_of};
-ghost use Rattle.scribe.specs.Page.{onto};
+ghost use Rattle.scribe.specs.Lent.{with_text};
 
 use label;
 use label::MOST;
@@ -27,7 +27,7 @@ fn head_length(front: Front) -> u64
 }
 
 fn told(out: &mut Page, file: File, score: Score)
-    ensures { out.new ≡ onto out.old (told_text file.entry.bytes.now file.entry.head score) }
+    ensures { out.new ≡ with_text out.old (told_text file.entry.bytes.now file.entry.head score) }
 {
     match score {
         Err(why) => spot::dropped(out, file, why.reason, why.at as usize),
@@ -40,7 +40,7 @@ fn told(out: &mut Page, file: File, score: Score)
 
 // The line of the place with number k.
 fn place_line(out: &mut Page, file: File, k: usize, held: Score)
-    ensures { out.new ≡ onto out.old (place_line file.entry.bytes.now file.entry.head k held) }
+    ensures { out.new ≡ with_text out.old (place_line file.entry.bytes.now file.entry.head k held) }
 {
     names::place(out, k);
     out.word(b": ");
@@ -49,7 +49,7 @@ fn place_line(out: &mut Page, file: File, k: usize, held: Score)
 }
 
 fn place_lines(out: &mut Page, file: File, slate: Slate)
-    ensures { out.new ≡ onto out.old (place_lines file.entry.bytes.now file.entry.head 0 slate) }
+    ensures { out.new ≡ with_text out.old (place_lines file.entry.bytes.now file.entry.head 0 slate) }
 {
     for (k, place) in slate.iter().enumerate() {
         place_line(out, file, k, place.score);
@@ -57,7 +57,7 @@ fn place_lines(out: &mut Page, file: File, slate: Slate)
 }
 
 fn count_lines(out: &mut Page, bytes: u64, head: u64)
-    ensures { out.new ≡ onto out.old (count_lines bytes head) }
+    ensures { out.new ≡ with_text out.old (count_lines bytes head) }
 {
     out.word(b"why 1\nbytes ");
     out.decimal(bytes);
@@ -69,7 +69,7 @@ fn count_lines(out: &mut Page, bytes: u64, head: u64)
 
 // What a state tells of the file whose bytes it was fed.
 pub fn write(out: &mut Page, file: &[u8], state: State)
-    ensures { out.new ≡ onto out.old (account_of file.now state) }
+    ensures { out.new ≡ with_text out.old (account_of file.now state) }
 {
     let front = state.front;
     let slate = state.places;
@@ -83,7 +83,7 @@ pub fn write(out: &mut Page, file: &[u8], state: State)
 }
 
 pub fn answer(file: &[u8], out: &mut Page)
-    ensures { out.new ≡ onto out.old (answer_of file.now) }
+    ensures { out.new ≡ with_text out.old (answer_of file.now) }
 {
     if MOST < file.len() {
         out.word(b"too long\n");

@@ -1,7 +1,7 @@
 -- Each public function's contract asks nothing and determines what the page holds.
 use Rattle.std.proofs.Common.{refl, ap}
 use Rattle.laws.specs.Determined.{Determined, same}
-use Rattle.scribe.specs.Page.{Page}
+use Rattle.scribe.specs.declared.page.Page.{Page}
 use Rattle.label.proofs.answer.Kinds as answer-kinds
 use Rattle.label.proofs.answer.Reads as answer-reads
 use Rattle.label.proofs.fed.Kinds as fed-kinds

@@ -4,7 +4,7 @@
 ghost use Rattle.std.specs.Prelude.{true, ◌≡◌};
 ghost use Rattle.detector.specs.Feed.{feed_of};
 ghost use Rattle.label.specs.Label.{state_of, answer_of};
-ghost use Rattle.scribe.specs.Page.{onto};
+ghost use Rattle.scribe.specs.Lent.{with_text};
 ghost use Rattle.state.specs.State.{start_of};
 ghost use Rattle.tables.specs.Lists.{lists};
 
@@ -66,7 +66,7 @@ pub fn fed(label: &[u8]) -> State
 }
 
 pub fn answer(label: &[u8], out: &mut Page)
-    ensures { out.new ≡ onto out.old (answer_of label.now) }
+    ensures { out.new ≡ with_text out.old (answer_of label.now) }
 {
     if MOST < label.len() {
         out.word(b"too long\n");

@@ -1,7 +1,7 @@
 -- Each public function's contract asks nothing and determines what the page holds.
 use Rattle.std.proofs.Common.{refl, ap}
 use Rattle.laws.specs.Determined.{Determined, same}
-use Rattle.scribe.specs.Page.{Page}
+use Rattle.scribe.specs.declared.page.Page.{Page}
 use Rattle.lines.proofs.show.place.Kinds as place-kinds
 use Rattle.lines.proofs.show.place.Reads as place-reads
 use Rattle.lines.proofs.show.reply.Kinds as reply-kinds

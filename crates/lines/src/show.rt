@@ -2,7 +2,7 @@
 ghost use Rattle.std.specs.Prelude.{◌≡◌};
 ghost use Rattle.context.specs.Context.{bytes_of};
 ghost use Rattle.lines.specs.Show.{saved_text, reply_text, start_text, bytes_text, front_text, record_text, dropped_text, scored_text, place_text, places_text, state_text};
-ghost use Rattle.scribe.specs.Page.{onto};
+ghost use Rattle.scribe.specs.Lent.{with_text};
 ghost use Rattle.scribe.specs.Text.{newline};
 
 use crate::fields;
@@ -18,13 +18,13 @@ use state::reply::{Reply, StartReply};
 use state::{State, leader};
 
 fn end_line(out: &mut Page)
-    ensures { out.new ≡ onto out.old newline }
+    ensures { out.new ≡ with_text out.old newline }
 {
     out.byte(0x0A);
 }
 
 pub fn reply(out: &mut Page, reply: Reply)
-    ensures { out.new ≡ onto out.old (reply_text reply) }
+    ensures { out.new ≡ with_text out.old (reply_text reply) }
 {
     fields::count(out, b"reply ", u64::from(reply.number()));
     fields::flag(out, b" ", reply.flag());
@@ -33,7 +33,7 @@ pub fn reply(out: &mut Page, reply: Reply)
 
 // A start that is refused has a line, any other none.
 pub fn start(out: &mut Page, reply: StartReply)
-    ensures { out.new ≡ onto out.old (start_text reply) }
+    ensures { out.new ≡ with_text out.old (start_text reply) }
 {
     match reply {
         StartReply::Accepted => {}
@@ -46,7 +46,7 @@ pub fn start(out: &mut Page, reply: StartReply)
 
 // The bytes of the saved context, or `-`.
 fn saved(out: &mut Page, context: Context)
-    ensures { out.new ≡ onto out.old (saved_text (bytes_of context)) }
+    ensures { out.new ≡ with_text out.old (saved_text (bytes_of context)) }
 {
     match context.count() {
         0 => out.byte(b'-'),
@@ -60,14 +60,14 @@ fn saved(out: &mut Page, context: Context)
 
 // How many bytes were accepted, and how many of them from the end of the head on.
 fn bytes(out: &mut Page, all: u64, body: u64)
-    ensures { out.new ≡ onto out.old (bytes_text all body) }
+    ensures { out.new ≡ with_text out.old (bytes_text all body) }
 {
     fields::count(out, b" bytes=", all);
     fields::count(out, b" body=", body);
 }
 
 fn front(out: &mut Page, front: Front)
-    ensures { out.new ≡ onto out.old (front_text front) }
+    ensures { out.new ≡ with_text out.old (front_text front) }
 {
     let context = front.context;
     out.word(b"front context=");
@@ -81,7 +81,7 @@ fn front(out: &mut Page, front: Front)
 
 // The fields of any machine.
 fn machine_fields(out: &mut Page, machine: Machine)
-    ensures { out.new ≡ onto out.old (record_text machine) }
+    ensures { out.new ≡ with_text out.old (record_text machine) }
 {
     match machine {
         Machine::Utf8(m) => fields::utf8(out, m),
@@ -98,7 +98,7 @@ fn machine_fields(out: &mut Page, machine: Machine)
 
 // What follows the name of a place without a score: why, and the place of the byte.
 fn dropped(out: &mut Page, reason: Reason, byte: u64)
-    ensures { out.new ≡ onto out.old (dropped_text reason byte) }
+    ensures { out.new ≡ with_text out.old (dropped_text reason byte) }
 {
     out.word(b" none ");
     names::reason(out, reason);
@@ -108,7 +108,7 @@ fn dropped(out: &mut Page, reason: Reason, byte: u64)
 
 // What follows a place's name.
 fn scored(out: &mut Page, machine: Machine, score: Score)
-    ensures { out.new ≡ onto out.old (scored_text machine score) }
+    ensures { out.new ≡ with_text out.old (scored_text machine score) }
 {
     match score {
         Err(why) => dropped(out, why.reason, why.at),
@@ -122,7 +122,7 @@ fn scored(out: &mut Page, machine: Machine, score: Score)
 }
 
 pub fn place(out: &mut Page, place: Place)
-    ensures { out.new ≡ onto out.old (place_text place) }
+    ensures { out.new ≡ with_text out.old (place_text place) }
 {
     let machine = place.machine;
     let score = place.score;
@@ -131,7 +131,7 @@ pub fn place(out: &mut Page, place: Place)
 }
 
 fn places(out: &mut Page, slate: Slate)
-    ensures { out.new ≡ onto out.old (places_text slate) }
+    ensures { out.new ≡ with_text out.old (places_text slate) }
 {
     for p in &slate {
         place(out, *p);
@@ -139,7 +139,7 @@ fn places(out: &mut Page, slate: Slate)
 }
 
 pub fn state(out: &mut Page, state: State)
-    ensures { out.new ≡ onto out.old (state_text state) }
+    ensures { out.new ≡ with_text out.old (state_text state) }
 {
     let first = state.front;
     let slate = state.places;

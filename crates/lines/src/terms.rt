@@ -2,7 +2,7 @@
 // would have the same five bodies, since the words are all that they hold.
 ghost use Rattle.std.specs.Prelude.{◌≡◌};
 ghost use Rattle.lines.specs.Names.{state_name, out_name, korean_name, cj_name, case_name};
-ghost use Rattle.scribe.specs.Page.{onto};
+ghost use Rattle.scribe.specs.Lent.{with_text};
 
 use arabic_french::LatinCaseState;
 use big5::LatinCj;
@@ -11,7 +11,7 @@ use iso2022jp::{DecoderState, OutputState};
 use scribe::page::Page;
 
 pub(crate) fn decoder_state(out: &mut Page, s: DecoderState)
-    ensures { out.new ≡ onto out.old (state_name s) }
+    ensures { out.new ≡ with_text out.old (state_name s) }
 {
     match s {
         DecoderState::Ascii => out.word(b"ascii"),
@@ -25,7 +25,7 @@ pub(crate) fn decoder_state(out: &mut Page, s: DecoderState)
 }
 
 pub(crate) fn output_state(out: &mut Page, s: OutputState)
-    ensures { out.new ≡ onto out.old (out_name s) }
+    ensures { out.new ≡ with_text out.old (out_name s) }
 {
     match s {
         OutputState::Ascii => out.word(b"ascii"),
@@ -36,7 +36,7 @@ pub(crate) fn output_state(out: &mut Page, s: OutputState)
 }
 
 pub(crate) fn korean(out: &mut Page, kind: LatinKorean)
-    ensures { out.new ≡ onto out.old (korean_name kind) }
+    ensures { out.new ≡ with_text out.old (korean_name kind) }
 {
     match kind {
         LatinKorean::AsciiLetter => out.word(b"letter"),
@@ -47,7 +47,7 @@ pub(crate) fn korean(out: &mut Page, kind: LatinKorean)
 }
 
 pub(crate) fn cj(out: &mut Page, kind: LatinCj)
-    ensures { out.new ≡ onto out.old (cj_name kind) }
+    ensures { out.new ≡ with_text out.old (cj_name kind) }
 {
     match kind {
         LatinCj::AsciiLetter => out.word(b"letter"),
@@ -57,7 +57,7 @@ pub(crate) fn cj(out: &mut Page, kind: LatinCj)
 }
 
 pub(crate) fn case(out: &mut Page, case: LatinCaseState)
-    ensures { out.new ≡ onto out.old (case_name case) }
+    ensures { out.new ≡ with_text out.old (case_name case) }
 {
     match case {
         LatinCaseState::Space => out.word(b"space"),

@@ -1,7 +1,7 @@
 -- Each contract of a public function that writes to a page asks nothing and determines what the page holds.
 use Rattle.std.proofs.Common.{refl, ap}
 use Rattle.laws.specs.Determined.{Determined, same}
-use Rattle.scribe.specs.Page.{Page}
+use Rattle.scribe.specs.declared.page.Page.{Page}
 use Rattle.names.proofs.place.Kinds as place-kinds
 use Rattle.names.proofs.place.Reads as place-reads
 use Rattle.names.proofs.reason.Kinds as reason-kinds

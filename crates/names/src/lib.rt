@@ -4,7 +4,7 @@
 
 ghost use Rattle.std.specs.Prelude.{◌≡◌};
 ghost use Rattle.names.specs.Names.{place_name, reason_name};
-ghost use Rattle.scribe.specs.Page.{onto};
+ghost use Rattle.scribe.specs.Lent.{with_text};
 
 use laws::Reason;
 use scribe::STDOUT_FILENO;
@@ -13,7 +13,7 @@ use std::convert::AsSlice;
 
 // The name of a place by its number; the last one's for any above.
 pub fn place(out: &mut Page, k: usize)
-    ensures { out.new ≡ onto out.old (place_name k) }
+    ensures { out.new ≡ with_text out.old (place_name k) }
 {
     match k {
         0 => out.word(b"utf-8"),
@@ -30,7 +30,7 @@ pub fn place(out: &mut Page, k: usize)
 
 // Why a place has no score, in a word.
 pub fn reason(out: &mut Page, reason: Reason)
-    ensures { out.new ≡ onto out.old (reason_name reason) }
+    ensures { out.new ≡ with_text out.old (reason_name reason) }
 {
     match reason {
         Reason::Class255 => out.word(b"class-255"),

@@ -1,7 +1,8 @@
--- Each public function's contract asks nothing and determines the reply and what the page holds.
-use Rattle.std.proofs.Common.{refl, ap}
+-- Each public function's contract asks nothing and determines the reply, what the page and its buffer hold, and what is left in a buffer given back.
+use Rattle.std.proofs.Common.{List, ℕ, refl, ap}
 use Rattle.laws.specs.Determined.{Determined, DeterminedSeen, same}
-use Rattle.scribe.specs.Page.{Page}
+use Rattle.scribe.specs.PageLaws.{alike}
+use Rattle.scribe.specs.declared.page.Page.{Page}
 use Rattle.scribe.proofs.page.Page.new.Kinds as new-kinds
 use Rattle.scribe.proofs.page.Page.new.Reads as new-reads
 use Rattle.scribe.proofs.page.Page.byte.Kinds as byte-kinds
@@ -18,6 +19,10 @@ use Rattle.scribe.proofs.page.Page.signed.Kinds as signed-kinds
 use Rattle.scribe.proofs.page.Page.signed.Reads as signed-reads
 use Rattle.scribe.proofs.page.PageAsSliceU8.as_slice.Kinds as as-slice-kinds
 use Rattle.scribe.proofs.page.PageAsSliceU8.as_slice.Reads as as-slice-reads
+use Rattle.scribe.proofs.page.Page.end.Kinds as end-kinds
+use Rattle.scribe.proofs.page.Page.end.Reads as end-reads
+use Rattle.scribe.proofs.page.word.Kinds as word-into-kinds
+use Rattle.scribe.proofs.page.word.Reads as word-into-reads
 
 pub new : Determined 1 new-kinds.ps new-kinds.r new-reads.Asked new-reads.Learnt
 new = record { total = λ κs a. tt; one = λ κs a z z' w w' p q. (same p q, refl) }
@@ -42,3 +47,9 @@ signed = record { total = λ κs a. tt; one = λ κs a z z' w w' p q. (refl, ap 
 
 pub as_slice : DeterminedSeen 2 as-slice-kinds.ps as-slice-kinds.r as-slice-reads.Asked as-slice-reads.Learnt (λ κs s. s.now)
 as_slice = record { total = λ κs a. tt; one = λ κs a z z' w w' p q. (same p q, refl) }
+
+pub end : Determined 1 end-kinds.ps end-kinds.r end-reads.Asked end-reads.Learnt
+end = record { total = λ κs a. tt; one = λ κs a z z' w w' p q. let s = alike p q in (s.0, ap (λ (l : List ℕ). ((l, tt), tt)) s.1) }
+
+pub word_into : Determined 2 word-into-kinds.ps word-into-kinds.r word-into-reads.Asked word-into-reads.Learnt
+word_into = record { total = λ κs a. tt; one = λ κs a z z' w w' p q. let s = alike p q in (s.0, ap (λ (l : List ℕ). (l, (tt, (tt, tt)))) s.1) }

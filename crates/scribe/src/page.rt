@@ -1,36 +1,29 @@
 // A lent buffer (the project has no heap) and how far it is written. What finds no room falls off.
-ghost use Rattle.std.specs.Prelude.{◌≡◌, ◌<◌};
+ghost use Rattle.std.specs.Prelude.{◌≡◌, ◌<◌, [], ◌∷◌};
 ghost use Rattle.io.specs.Digits.{hex_digit_ascii};
-ghost use Rattle.scribe.specs.Page.{page, put, onto, text_of};
+ghost use Rattle.scribe.specs.Lent.{over, seen, with_text};
+ghost use Rattle.scribe.specs.Page.{page, onto, text_of};
 ghost use Rattle.scribe.specs.Text.{flag_of, hex_of, decimal_of, signed_of};
 
 use std::convert::AsSlice;
-use std::marker::Model;
 
+// Without a `Model`, since that would hide from a caller that the page keeps the very reference that it was lent.
 #[derive(Drop)]
 pub struct Page<'a> {
     out: &'a mut [u8],
     at: usize,
 }
 
-impl<'a> Model for Page<'a> {
-    ghost use Rattle.scribe.specs.Page.{Page, page};
-
-    ghost Value = { Page };
-
-    ghost view = { λ p. page p.out.now p.at };
-}
-
 impl<'a> Page<'a> {
     // A buffer that is written up to `at`.
     pub fn new(out: &'a mut [u8], at: usize) -> Page<'a>
-        ensures { result ≡ page out.old at }
+        ensures { result ≡ over out.entry at }
     {
         Page { out, at }
     }
 
     pub fn byte(&mut self, b: u8)
-        ensures { self.new ≡ put self.old b }
+        ensures { self.new ≡ with_text self.old (b ∷ []) }
     {
         if self.at < self.out.len() {
             self.out[self.at] = b;
@@ -41,7 +34,7 @@ impl<'a> Page<'a> {
     }
 
     pub fn word(&mut self, text: &[u8])
-        ensures { self.new ≡ onto self.old text.now }
+        ensures { self.new ≡ with_text self.old text.now }
     {
         for b in text {
             self.byte(*b);
@@ -50,14 +43,14 @@ impl<'a> Page<'a> {
 
     // Two hexadecimal digits.
     pub fn hex(&mut self, b: u8)
-        ensures { self.new ≡ onto self.old (hex_of b) }
+        ensures { self.new ≡ with_text self.old (hex_of b) }
     {
         self.byte(digit(b / 16));
         self.byte(digit(b % 16));
     }
 
     pub fn flag(&mut self, f: bool)
-        ensures { self.new ≡ onto self.old (flag_of f) }
+        ensures { self.new ≡ with_text self.old (flag_of f) }
     {
         if f {
             self.byte(b'1');
@@ -67,7 +60,7 @@ impl<'a> Page<'a> {
     }
 
     pub fn decimal(&mut self, n: u64)
-        ensures { self.new ≡ onto self.old (decimal_of n) }
+        ensures { self.new ≡ with_text self.old (decimal_of n) }
     {
         let mut digits = [0u8; 20];
         let count = io::decimal(n, &mut digits);
@@ -75,18 +68,34 @@ impl<'a> Page<'a> {
     }
 
     pub fn signed(&mut self, z: i64)
-        ensures { self.new ≡ onto self.old (signed_of z) }
+        ensures { self.new ≡ with_text self.old (signed_of z) }
     {
         if z < 0 {
             self.byte(b'-');
         }
         self.decimal(signed::size(z));
     }
+
+    // Gives back how far the buffer is written, which is the caller's own again.
+    pub fn end(self) -> usize
+        ensures { page self.exit.0.now result ≡ seen self.entry }
+    {
+        self.at
+    }
+}
+
+// A text written into a buffer from `at` on; the result is where it ends.
+pub fn word(out: &mut [u8], at: usize, text: &[u8]) -> usize
+    ensures { page out.new result ≡ onto (page out.old at) text.now }
+{
+    let mut page = Page::new(out, at);
+    page.word(text);
+    page.end()
 }
 
 // What is written.
 impl<'a> AsSlice<u8> for Page<'a> {
-    ghost items = { text_of };
+    ghost items = { λ p. text_of (seen p) };
 
     fn as_slice(&self) -> &[u8] {
         if self.at < self.out.len() {

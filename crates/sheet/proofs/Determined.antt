@@ -1,7 +1,7 @@
 -- Each public function's contract asks nothing and determines what the page holds.
 use Rattle.std.proofs.Common.{refl, ap}
 use Rattle.laws.specs.Determined.{Determined, same}
-use Rattle.scribe.specs.Page.{Page}
+use Rattle.scribe.specs.declared.page.Page.{Page}
 use Rattle.sheet.proofs.leader_line.Kinds as leader-line-kinds
 use Rattle.sheet.proofs.leader_line.Reads as leader-line-reads
 use Rattle.sheet.proofs.write.Kinds as write-kinds

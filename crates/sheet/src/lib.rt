@@ -2,7 +2,7 @@
 #![tactic(auto)]
 
 ghost use Rattle.std.specs.Prelude.{◌≡◌, ◌++◌};
-ghost use Rattle.scribe.specs.Page.{onto};
+ghost use Rattle.scribe.specs.Lent.{with_text};
 ghost use Rattle.scribe.specs.Text.{newline, decimal_of};
 ghost use Rattle.sheet.specs.Sheet.{score_text, place_line, place_lines, leader_name, leader_line, sheet_of};
 
@@ -17,7 +17,7 @@ pub const ROOM: usize = 512;
 
 // The line of a count, its label before it.
 fn count_line(out: &mut Page, label: &[u8], n: u64)
-    ensures { out.new ≡ onto out.old (label.now ++ decimal_of n ++ newline) }
+    ensures { out.new ≡ with_text out.old (label.now ++ decimal_of n ++ newline) }
 {
     out.word(label);
     out.decimal(n);
@@ -25,7 +25,7 @@ fn count_line(out: &mut Page, label: &[u8], n: u64)
 }
 
 fn score(out: &mut Page, score: Score)
-    ensures { out.new ≡ onto out.old (score_text score) }
+    ensures { out.new ≡ with_text out.old (score_text score) }
 {
     match score {
         Err(_) => out.word(b"none"),
@@ -35,7 +35,7 @@ fn score(out: &mut Page, score: Score)
 
 // The line of the place with number k.
 fn place_line(out: &mut Page, k: usize, held: Score)
-    ensures { out.new ≡ onto out.old (place_line k held) }
+    ensures { out.new ≡ with_text out.old (place_line k held) }
 {
     names::place(out, k);
     out.byte(b' ');
@@ -44,7 +44,7 @@ fn place_line(out: &mut Page, k: usize, held: Score)
 }
 
 fn place_lines(out: &mut Page, slate: Slate)
-    ensures { out.new ≡ onto out.old (place_lines 0 slate) }
+    ensures { out.new ≡ with_text out.old (place_lines 0 slate) }
 {
     for (k, place) in slate.iter().enumerate() {
         place_line(out, k, place.score);
@@ -52,7 +52,7 @@ fn place_lines(out: &mut Page, slate: Slate)
 }
 
 fn leader_name(out: &mut Page, leader: Leader)
-    ensures { out.new ≡ onto out.old (leader_name leader) }
+    ensures { out.new ≡ with_text out.old (leader_name leader) }
 {
     match leader {
         Leader::Ascii => out.word(b"ascii"),
@@ -62,7 +62,7 @@ fn leader_name(out: &mut Page, leader: Leader)
 }
 
 pub fn leader_line(out: &mut Page, leader: Leader)
-    ensures { out.new ≡ onto out.old (leader_line leader) }
+    ensures { out.new ≡ with_text out.old (leader_line leader) }
 {
     out.word(b"leader ");
     leader_name(out, leader);
@@ -71,7 +71,7 @@ pub fn leader_line(out: &mut Page, leader: Leader)
 
 // All thirteen lines.
 pub fn write(out: &mut Page, state: State)
-    ensures { out.new ≡ onto out.old (sheet_of state) }
+    ensures { out.new ≡ with_text out.old (sheet_of state) }
 {
     let front = state.front;
     let slate = state.places;

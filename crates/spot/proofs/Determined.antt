@@ -1,7 +1,7 @@
 -- The public function's contract asks nothing and determines what the page holds.
 use Rattle.std.proofs.Common.{refl, ap}
 use Rattle.laws.specs.Determined.{Determined, same}
-use Rattle.scribe.specs.Page.{Page}
+use Rattle.scribe.specs.declared.page.Page.{Page}
 use Rattle.spot.proofs.dropped.Kinds as dropped-kinds
 use Rattle.spot.proofs.dropped.Reads as dropped-reads
 

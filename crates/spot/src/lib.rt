@@ -2,7 +2,7 @@
 #![tactic(auto)]
 
 ghost use Rattle.std.specs.Prelude.{◌≡◌, cond, ◌++◌, eqb, length, ◌-◌, ◌<◌, ◌≤◌};
-ghost use Rattle.scribe.specs.Page.{onto};
+ghost use Rattle.scribe.specs.Lent.{with_text};
 ghost use Rattle.spot.specs.Spot.{spaced_hexes, before_text, marked_text, byte_text, end_text, at_place_text, where_text, unhyphened, spot_text};
 ghost use Rattle.spot.specs.SpotLaws.{Shown};
 ghost use Rattle.scribe.specs.Text.{ascii};
@@ -25,7 +25,7 @@ const SIDE: usize = 4;
 
 // In hexadecimal, a space before each.
 fn hexes(out: &mut Page, bytes: &[u8])
-    ensures { out.new ≡ onto out.old (spaced_hexes bytes.now) }
+    ensures { out.new ≡ with_text out.old (spaced_hexes bytes.now) }
 {
     for b in bytes {
         out.byte(b' ');
@@ -35,7 +35,7 @@ fn hexes(out: &mut Page, bytes: &[u8])
 
 fn before(out: &mut Page, file: &[u8], offset: usize)
     requires { offset ≤ length file.now }
-    ensures { out.new ≡ onto out.old (before_text file.now offset) }
+    ensures { out.new ≡ with_text out.old (before_text file.now offset) }
 {
     let from = offset.saturating_sub(SIDE);
     hexes(out, &file[from..offset]);
@@ -55,7 +55,7 @@ fn shown(offset: usize, length: usize) -> usize
 // The byte at an offset, marked, and those after it.
 fn marked(out: &mut Page, file: &[u8], offset: usize)
     requires { offset < length file.now }
-    ensures { out.new ≡ onto out.old (marked_text file.now offset) }
+    ensures { out.new ≡ with_text out.old (marked_text file.now offset) }
 {
     out.word(b" [");
     out.hex(file[offset]);
@@ -67,7 +67,7 @@ fn marked(out: &mut Page, file: &[u8], offset: usize)
 
 fn at_byte(out: &mut Page, file: &[u8], offset: usize)
     requires { offset < length file.now }
-    ensures { out.new ≡ onto out.old (byte_text file.now offset) }
+    ensures { out.new ≡ with_text out.old (byte_text file.now offset) }
 {
     out.word(b" at offset ");
     out.decimal(offset as u64);
@@ -77,7 +77,7 @@ fn at_byte(out: &mut Page, file: &[u8], offset: usize)
 }
 
 fn at_end(out: &mut Page, file: &[u8])
-    ensures { out.new ≡ onto out.old (end_text file.now) }
+    ensures { out.new ≡ with_text out.old (end_text file.now) }
 {
     out.word(b" at the end of the file, offset ");
     out.decimal(file.len() as u64);
@@ -87,7 +87,7 @@ fn at_end(out: &mut Page, file: &[u8])
 
 // A byte by its place, which is counted from 1 at the end of the head.
 fn at_place(out: &mut Page, file: File, place: usize)
-    ensures { out.new ≡ onto out.old (at_place_text file.entry.bytes.now file.entry.head place) }
+    ensures { out.new ≡ with_text out.old (at_place_text file.entry.bytes.now file.entry.head place) }
 {
     if place == 0 {
         out.word(b" in the head");
@@ -100,14 +100,14 @@ fn at_place(out: &mut Page, file: File, place: usize)
 }
 
 fn at_cut(out: &mut Page, file: &[u8])
-    ensures { out.new ≡ onto out.old (ascii "," ++ end_text file.now) }
+    ensures { out.new ≡ with_text out.old (ascii "," ++ end_text file.now) }
 {
     out.byte(b',');
     at_end(out, file);
 }
 
 fn location(out: &mut Page, file: File, reason: Reason, place: usize)
-    ensures { out.new ≡ onto out.old (where_text file.entry.bytes.now file.entry.head reason place) }
+    ensures { out.new ≡ with_text out.old (where_text file.entry.bytes.now file.entry.head reason place) }
 {
     match reason {
         Reason::CutAtClose => at_cut(out, file.bytes),
@@ -127,7 +127,7 @@ fn apart(b: u8) -> u8
 }
 
 fn in_words(out: &mut Page, text: &[u8])
-    ensures { out.new ≡ onto out.old (unhyphened text.now) }
+    ensures { out.new ≡ with_text out.old (unhyphened text.now) }
 {
     for b in text {
         out.byte(apart(*b));
@@ -135,7 +135,7 @@ fn in_words(out: &mut Page, text: &[u8])
 }
 
 fn why(out: &mut Page, reason: Reason)
-    ensures { out.new ≡ onto out.old (unhyphened (reason_name reason)) }
+    ensures { out.new ≡ with_text out.old (unhyphened (reason_name reason)) }
 {
     let mut word = [0u8; 16];
     let mut text = Page::new(&mut word, 0);
@@ -145,7 +145,7 @@ fn why(out: &mut Page, reason: Reason)
 
 // Why, and where in the file.
 pub fn dropped(out: &mut Page, file: File, reason: Reason, place: usize)
-    ensures { out.new ≡ onto out.old (spot_text file.entry.bytes.now file.entry.head reason place) }
+    ensures { out.new ≡ with_text out.old (spot_text file.entry.bytes.now file.entry.head reason place) }
 {
     why(out, reason);
     location(out, file, reason, place);

@@ -1,6 +1,6 @@
 // A grid as text: a state's number, and a line for each run of equal entries in its row.
 ghost use Rattle.std.specs.Prelude.{◌≡◌, ◌<◌, ◌≤◌, length};
-ghost use Rattle.scribe.specs.Page.{onto};
+ghost use Rattle.scribe.specs.Lent.{with_text};
 ghost use Rattle.utf8_sheet.specs.Sheet.{range_text, line_of, lines_of, runs_of, state_text, sheet_of};
 ghost use Rattle.utf8_sheet.specs.LoopLaws.{Ended};
 
@@ -30,7 +30,7 @@ fn run_end(row: &[u8], from: usize) -> usize
 }
 
 fn range(out: &mut Page, first: u8, last: u8)
-    ensures { out.new ≡ onto out.old (range_text first last) }
+    ensures { out.new ≡ with_text out.old (range_text first last) }
 {
     out.hex(first);
     if first != last {
@@ -40,7 +40,7 @@ fn range(out: &mut Page, first: u8, last: u8)
 }
 
 fn line(out: &mut Page, run: Run)
-    ensures { out.new ≡ onto out.old (line_of run) }
+    ensures { out.new ≡ with_text out.old (line_of run) }
 {
     range(out, run.first, run.last);
     out.byte(b' ');
@@ -50,7 +50,7 @@ fn line(out: &mut Page, run: Run)
 
 fn lines(out: &mut Page, row: &[u8])
     requires { length row.now ≤ 256 }
-    ensures { out.new ≡ onto out.old (lines_of (runs_of row.now)) }
+    ensures { out.new ≡ with_text out.old (lines_of (runs_of row.now)) }
 {
     // A step is a run. `chunk_by` gives a run's entries and not its first byte, which would be counted by hand all the same.
     let mut from = 0;
@@ -68,7 +68,7 @@ fn lines(out: &mut Page, row: &[u8])
 
 fn state(out: &mut Page, s: usize, row: &[u8])
     requires { length row.now ≤ 256 }
-    ensures { out.new ≡ onto out.old (state_text s row.now) }
+    ensures { out.new ≡ with_text out.old (state_text s row.now) }
 {
     out.word(b"state ");
     out.decimal(s as u64);
@@ -79,7 +79,7 @@ fn state(out: &mut Page, s: usize, row: &[u8])
 // Nine rows of 256.
 pub(crate) fn write(out: &mut Page, grid: &[u8])
     requires { length grid.now ≡ 2304 }
-    ensures { out.new ≡ onto out.old (sheet_of grid.now) }
+    ensures { out.new ≡ with_text out.old (sheet_of grid.now) }
 {
     for s in 0..STATES {
         let from = BYTES * s;

@@ -1,9 +1,8 @@
 -- `count_lines` meets its contract.
-use mathlib.Core.Path.{◌∙◌}
-use Rattle.scribe.specs.PageLaws.{follow, onto_one}
+use Rattle.scribe.specs.LentLaws.{with_both}
 use Rattle.account.specs.Account.{count_lines}
 use Rattle.account.proofs.count_lines.Goals as goal
 
 pub returns : goal.returns
 unfolding count_lines
-returns c = follow _ _ _ (follow _ _ _ (follow _ _ _ (follow _ _ _ (follow _ _ _ c.word.ensures c.decimal.ensures) (c.byte.ensures ∙ onto_one _ _)) c.word-2.ensures) c.decimal-2.ensures) (c.byte-2.ensures ∙ onto_one _ _)
+returns c = with_both _ _ _ (with_both _ _ _ (with_both _ _ _ (with_both _ _ _ (with_both _ _ _ c.word.ensures c.decimal.ensures) c.byte.ensures) c.word-2.ensures) c.decimal-2.ensures) c.byte-2.ensures

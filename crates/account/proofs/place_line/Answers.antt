@@ -1,9 +1,8 @@
 -- `place_line` meets its contract.
-use mathlib.Core.Path.{◌∙◌}
-use Rattle.scribe.specs.PageLaws.{follow, onto_one}
+use Rattle.scribe.specs.LentLaws.{with_both}
 use Rattle.account.specs.Account.{place_line}
 use Rattle.account.proofs.place_line.Goals as goal
 
 pub returns : goal.returns
 unfolding place_line
-returns c = follow _ _ _ (follow _ _ _ (follow _ _ _ c.place.ensures c.word.ensures) c.told.ensures) (c.byte.ensures ∙ onto_one _ _)
+returns c = with_both _ _ _ (with_both _ _ _ (with_both _ _ _ c.place.ensures c.word.ensures) c.told.ensures) c.byte.ensures

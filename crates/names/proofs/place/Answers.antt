@@ -1,6 +1,6 @@
 -- `place` meets its contract.
 use mathlib.Core.Path.{ap, ◌∙◌}
-use Rattle.scribe.specs.Page.{onto}
+use Rattle.scribe.specs.Lent.{with_text}
 use Rattle.names.specs.Names.{place_name}
 use Rattle.names.specs.NamesLaws.{last_name}
 use Rattle.names.proofs.place.Goals as goal
@@ -40,4 +40,4 @@ returns-in-7 c = rw c.in-7.is c.word-in-7.ensures
 pub returns-in_default : goal.returns-in_default
 returns-in_default c =
     let r = c.in_default.in_default-own.rest in
-    c.word-in_default.ensures ∙ ap (onto _) (last_name _ r.0.0.0.0.0.0.0.1 r.0.0.0.0.0.0.1 r.0.0.0.0.0.1 r.0.0.0.0.1 r.0.0.0.1 r.0.0.1 r.0.1 r.1)
+    c.word-in_default.ensures ∙ ap (with_text _) (last_name _ r.0.0.0.0.0.0.0.1 r.0.0.0.0.0.0.1 r.0.0.0.0.0.1 r.0.0.0.0.1 r.0.0.0.1 r.0.0.1 r.0.1 r.1)

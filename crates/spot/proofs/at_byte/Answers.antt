@@ -1,9 +1,8 @@
 -- `at_byte` meets its contract.
-use mathlib.Core.Path.{◌∙◌}
-use Rattle.scribe.specs.PageLaws.{follow, onto_one}
+use Rattle.scribe.specs.LentLaws.{with_both}
 use Rattle.spot.specs.Spot.{byte_text}
 use Rattle.spot.proofs.at_byte.Goals as goal
 
 pub returns : goal.returns
 unfolding byte_text
-returns c = follow _ _ _ (follow _ _ _ (follow _ _ _ (follow _ _ _ c.word.ensures c.decimal.ensures) (c.byte.ensures ∙ onto_one _ _)) c.before-2.ensures) c.marked.ensures
+returns c = with_both _ _ _ (with_both _ _ _ (with_both _ _ _ (with_both _ _ _ c.word.ensures c.decimal.ensures) c.byte.ensures) c.before-2.ensures) c.marked.ensures

@@ -4,6 +4,7 @@ use mathlib.Core.List.{List}
 use Prim.Native.Nat.{ℕ}
 use Rattle.laws.specs.declared.Reason.{Reason}
 use Rattle.laws.specs.declared.Reason.TheVariants.{Class255, BadByte, BadSecondByte, BrokenEscape, CutAtClose, NotInSlate}
+use Rattle.scribe.specs.Lent.{with_text}
 use Rattle.scribe.specs.Page.{onto}
 use Rattle.spot.specs.Spot.{at_place_text, where_text}
 use Rattle.spot.proofs.location.Goals as goal
@@ -27,4 +28,4 @@ unfolding where_text onto
 returns-in-NotInSlate c = rw c.in-NotInSlate.is
 
 pub returns-in_default : goal.returns-in_default
-returns-in_default c = let a = c.args in c.at_place.ensures ∙ ap (onto _) (of_byte a.file.bytes.now a.file.head a.reason a.place c.in_default.not-CutAtClose c.in_default.not-NotInSlate)
+returns-in_default c = let a = c.args in c.at_place.ensures ∙ ap (with_text _) (of_byte a.file.bytes.now a.file.head a.reason a.place c.in_default.not-CutAtClose c.in_default.not-NotInSlate)

@@ -1,6 +1,6 @@
 -- `count` meets its contract.
-use Rattle.scribe.specs.PageLaws.{follow}
+use Rattle.scribe.specs.LentLaws.{with_both}
 use Rattle.lines.proofs.fields.count.Goals as goal
 
 pub returns : goal.returns
-returns c = follow _ _ _ c.word.ensures c.decimal.ensures
+returns c = with_both _ _ _ c.word.ensures c.decimal.ensures

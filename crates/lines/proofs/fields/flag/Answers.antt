@@ -1,6 +1,6 @@
 -- `flag` meets its contract.
-use Rattle.scribe.specs.PageLaws.{follow}
+use Rattle.scribe.specs.LentLaws.{with_both}
 use Rattle.lines.proofs.fields.flag.Goals as goal
 
 pub returns : goal.returns
-returns c = follow _ _ _ c.word.ensures c.flag.ensures
+returns c = with_both _ _ _ c.word.ensures c.flag.ensures

@@ -1,6 +1,6 @@
 -- `hex` meets its contract.
-use Rattle.scribe.specs.PageLaws.{follow}
+use Rattle.scribe.specs.LentLaws.{with_both}
 use Rattle.lines.proofs.fields.hex.Goals as goal
 
 pub returns : goal.returns
-returns c = follow _ _ _ c.word.ensures c.hex.ensures
+returns c = with_both _ _ _ c.word.ensures c.hex.ensures

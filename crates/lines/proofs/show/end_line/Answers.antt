@@ -1,7 +1,5 @@
 -- `end_line` meets its contract.
-use mathlib.Core.Path.{◌∙◌}
-use Rattle.scribe.specs.PageLaws.{onto_one}
 use Rattle.lines.proofs.show.end_line.Goals as goal
 
 pub returns : goal.returns
-returns c = c.byte.ensures ∙ onto_one _ _
+returns c = c.byte.ensures

@@ -1,7 +1,7 @@
 -- `start` meets its contract.
 use mathlib.Core.Path.{refl}
 use Rattle.scribe.specs.Page.{onto}
-use Rattle.scribe.specs.PageLaws.{follow}
+use Rattle.scribe.specs.LentLaws.{with_both}
 use Rattle.lines.specs.Show.{start_text}
 use Rattle.lines.proofs.show.start.Goals as goal
 
@@ -15,4 +15,4 @@ returns-in-NoSuchPlace c =
     let told = c.in-NoSuchPlace.is in
     let number = c.number.ensures in
     let wide = c.from.ensures in
-    rw told (follow _ _ _ (rw (wide, number, told) at c.count.ensures) c.end_line.ensures)
+    rw told (with_both _ _ _ (rw (wide, number, told) at c.count.ensures) c.end_line.ensures)

@@ -5,8 +5,8 @@ use Rattle.scribe.proofs.page.PageAsSliceU8.as_slice.Goals as goal
 
 pub returns-then-self : goal.returns-then-self
 unfolding text_of
-returns-then-self c = rw (← c.self.view_is) refl
+returns-then-self c = refl
 
 pub returns : goal.returns
 unfolding text_of
-returns c = rw (← c.self.view_is) (sym (take_all c.self.inside.at c.self.inside.out.now c.if-self.false))
+returns c = sym (take_all c.args.self.now.at c.args.self.now.out.now c.if-self.false)
